@@ -1,0 +1,1 @@
+// No code: the words of the specification, as definitions in specs/.
