@@ -1,0 +1,2 @@
+pub mod NumberAt
+pub mod Within
