@@ -1,3 +1,5 @@
 pub mod NumberLaws
+pub mod NumberAt
 pub mod TwoWays
 pub mod RuleLaws
+pub mod Within
