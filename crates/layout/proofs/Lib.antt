@@ -2,4 +2,5 @@ pub mod NumberLaws
 pub mod NumberAt
 pub mod TwoWays
 pub mod RuleLaws
+pub mod Tails
 pub mod Within

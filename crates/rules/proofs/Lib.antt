@@ -1,0 +1,5 @@
+pub mod Marking
+pub mod TermSteps
+pub mod GoalSteps
+pub mod Runs
+pub mod RuleSteps
