@@ -3,3 +3,5 @@ pub mod TermSteps
 pub mod GoalSteps
 pub mod Runs
 pub mod RuleSteps
+pub mod Meaning
+pub mod Verdicts

@@ -15,6 +15,8 @@ use Rattle.rules.specs.declared.Step.the-variants.{Next}
 use Rattle.rules.specs.declared.Step.the-variants as step
 use Rattle.rules.specs.declared.Whole.{Whole}
 use Rattle.rules.specs.declared.Whole.the-variants as whole
+use Rattle.rules.specs.declared.Verdict.{Verdict}
+use Rattle.rules.specs.declared.Verdict.the-variants.{Sound, Broken}
 
 -- nothing noted yet
 abbrev pub none : Marks
@@ -58,3 +60,8 @@ wholeOf (bad f) = whole.Bad (faultOf f)
 abbrev pub stoppedBy : Step → Whole
 stoppedBy (Next p m) = whole.Rule m m
 stoppedBy (step.Bad f) = whole.Bad f
+
+-- a whole rule's fault as a verdict
+abbrev pub brokenBy : Whole → Verdict
+brokenBy (whole.Rule a b) = Sound
+brokenBy (whole.Bad f) = Broken f

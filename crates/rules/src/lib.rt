@@ -3,10 +3,9 @@ ghost use mathlib.Core.Path.{_≡_};
 ghost use Prim.Native.Nat.{ℕ, _+_, _<_, _≤_};
 ghost use lib.ListN.{length, drop};
 ghost use Rattle.words.specs.Words.{var, con};
-ghost use Rattle.layout.specs.Numbers.{Bytes};
 ghost use Rattle.layout.specs.Reading.{readTerm, readMany, readSubgoal, readRule};
-ghost use Rattle.rules.specs.Marked.{none, mark, marks, goalMarks, ofGoal, stepped, stoppedBy, wholeOf};
-//ghost use Rattle.rules.specs.Judged.{Judged};
+ghost use Rattle.rules.specs.Marked.{none, mark, marks, goalMarks, ofGoal, stepped, stoppedBy, wholeOf, brokenBy};
+ghost use Rattle.rules.specs.Judged.{Judged};
 
 // The ways to break the layout.
 pub enum Fault {
@@ -210,4 +209,34 @@ fn read_rule(body: &[u8], relations: &[u8], most: usize) -> Whole
         return Whole::Bad(Fault::Over);
     }
     Whole::Rule(shown, seen)
+}
+
+// A fault of reading as a verdict.
+fn broken(read: Whole) -> Verdict
+    ensures { λ r. ⌜ r ≡ brokenBy read ⌝ }
+{
+    match read {
+        Whole::Rule(_, _) => Verdict::Sound,
+        Whole::Bad(f) => Verdict::Broken(f),
+    }
+}
+
+// What is to be said of a rule's bytes: its layout first, then whether it is safe, then, of a summary, whether its head is distinct variables.
+pub fn judge(body: &[u8], relations: &[u8], most: usize, summary: bool) -> Verdict
+    ensures { λ r. ⌜ Judged (now (relations .entry)) most summary (now (body .entry)) r ⌝ }
+{
+    let read = read_rule(body, relations, most);
+    let Whole::Rule(shown, seen) = read else {
+        return broken(read);
+    };
+    if !bits::within(shown.vars, seen.vars) {
+        return Verdict::Unsafe;
+    }
+    if shown.plain {
+        return Verdict::Sound;
+    }
+    if summary {
+        return Verdict::Repeats;
+    }
+    Verdict::Sound
 }
