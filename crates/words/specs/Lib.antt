@@ -27,3 +27,4 @@ pub mod Named
 pub mod Witness
 pub mod WitnessExists
 pub mod Admits
+pub mod Sheets
