@@ -1,28 +1,26 @@
 -- The proved sheets: one table under one statement. Answers are those of the specification; witnesses not told there are worked out by hand.
 use mathlib.Core.Path.{_≡_, refl}
-use mathlib.Core.Option.{Option, some, none, Option·map}
+use mathlib.Core.Option.{Option, some, none}
 use mathlib.Core.List.{List, [], _∷_, map}
 use Prim.Native.Nat.{ℕ}
-use Rattle.words.specs.Words.{Term, var, con, Subgoal, Rule}
-use Rattle.words.specs.Summaries.{rewriting}
+use lib.Dec.{T}
+use Rattle.words.specs.Words.{_∈_, Term, var, con, Subgoal, Rule}
 use Rattle.words.specs.Refresh.{admitted}
+use Rattle.words.specs.Answer.{Rewrites}
 use Rattle.words.specs.Book.{Summary, Book, admittedOf}
-use Rattle.words.specs.Rewritings.{answer}
-use Rattle.words.specs.Witness.{there, back}
-
--- An accepted answer: its rows, and the two parts of its witness.
-pub record Answered : Type 0 where
-  pub rows : List (Subgoal (Term ℕ))
-  pub there : Option (List ℕ)
-  pub back : Option (List ℕ)
+use Rattle.words.specs.Sound.{AllSafe}
+use Rattle.words.specs.Tests.{every, every-sound}
+use Rattle.words.specs.Lists.{same-map}
+use Rattle.words.specs.Safety.{allSafe, allSafe-sound}
+use Rattle.words.specs.Answered.{Answered, Right, answered, answered-is, answered-none}
 
 -- A book and what comes of it; none is refusal 10.
 pub record Sheet : Type 0 where
   pub book : Book
   pub expected : Option Answered
 
-abbrev pub answered : Book → Option Answered
-answered b = Option·map (λ l. record { rows = l; there = there (admittedOf b) (b .question) (rewriting (b .question) l); back = back (admittedOf b) (b .question) (rewriting (b .question) l) }) (answer (admittedOf b) (b .question))
+abbrev pub computed : Sheet → Option Answered
+computed s = answered (admittedOf (s .book)) (s .book .question)
 
 -- How a sheet is written.
 abbrev pub rule : List (Term ℕ) → List (Subgoal (Term ℕ)) → Rule ℕ
@@ -39,7 +37,7 @@ abbrev pub at1 : List ℕ → Rule ℕ → List (Rule ℕ) → Book
 at1 arities q rules = record { arities = arities; need = 1; question = q; summaries = map (stamped 1) rules }
 
 abbrev pub accepts : Book → List (Subgoal (Term ℕ)) → List ℕ → List ℕ → Sheet
-accepts b rows there back = record { book = b; expected = some record { rows = rows; there = some there; back = some back } }
+accepts b rows there back = record { book = b; expected = some record { rows = rows; there = there; back = back } }
 
 abbrev pub refused10 : Book → Sheet
 refused10 b = record { book = b; expected = none }
@@ -143,6 +141,25 @@ sheets =
     ∷ refused10 (both [])
     ∷ []
 
-pub proved : map (λ s. answered (s .book)) sheets ≡ map (λ s. s .expected) sheets
+pub proved : map computed sheets ≡ map (λ s. s .expected) sheets
 unfolding sheets admitted
 proved = refl
+
+-- What that says of each sheet, in the words of the definitions.
+abbrev pub Meant : Book → Option Answered → Type 0
+Meant b none = (l : List (Subgoal (Term ℕ))) → Rewrites (admittedOf b) (b .question) l → ⊥
+Meant b (some a) = Right (admittedOf b) (b .question) a
+
+sheets-safe : T (every (λ s. allSafe (admittedOf (s .book))) sheets)
+unfolding sheets admitted
+sheets-safe = tt
+
+pub meant : (s : Sheet) → s ∈ sheets → Meant (s .book) (s .expected)
+meant s m = go (s .expected) (same-map computed (λ s. s .expected) sheets proved s m)
+  where
+    sound : AllSafe (admittedOf (s .book))
+    sound = allSafe-sound (admittedOf (s .book)) (every-sound (λ s. allSafe (admittedOf (s .book))) sheets sheets-safe s m)
+
+    go : (o : Option Answered) → computed s ≡ o → Meant (s .book) o
+    go none e = answered-none (admittedOf (s .book)) (s .book .question) sound .0 e
+    go (some a) e = answered-is (admittedOf (s .book)) (s .book .question) sound a .0 e
