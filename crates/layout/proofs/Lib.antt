@@ -1,2 +1,4 @@
 pub mod NumberAt
+pub mod Places
 pub mod Within
+pub mod FirstFaults
