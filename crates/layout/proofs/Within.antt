@@ -40,6 +40,16 @@ module _ (book : List ℕ) where
   unfolding partAt
   part-byte i k h = rw (getD-take, getD-drop)
 
+  -- The part is what `&book[offset..offset + length]` lends.
+  pub part-lent : (i o x : ℕ) → o ≡ offsetAt book i → x ≡ lengthAt book i → take (o + x - o) (drop o book) ≡ partAt book i
+  unfolding partAt
+  part-lent i o x e l = let many : o + x - o ≡ x = omega arith in rw (many, e, l)
+
+  -- There is an entry 0, the relations, and an entry 1, the question.
+  pub entries-some : 1 < entriesIn book
+  unfolding entriesIn entries
+  entries-some = omega arith
+
   -- The same of a book that loads, for readers that ask `load` first.
   pub loads-room : (i : ℕ) → Loads book → i < entriesIn book → 14 + 12 * i ≤ length book
   loads-room i l = entry-room i (l .noGaps .room)
