@@ -3,3 +3,8 @@ pub mod NumberAt
 pub mod TwoWays
 pub mod RuleLaws
 pub mod Within
+pub mod Joined
+pub mod Places
+pub mod Sizes
+pub mod Laid
+pub mod BookSizes
