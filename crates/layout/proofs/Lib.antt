@@ -7,4 +7,9 @@ pub mod Joined
 pub mod Places
 pub mod Sizes
 pub mod Laid
+pub mod AreBytes
+pub mod Starts
+pub mod Stands
+pub mod BookStands
+pub mod BookPasses
 pub mod BookSizes
