@@ -1,15 +1,14 @@
 -- Nothing turns a sound book down.
-use mathlib.Core.Path.{_≡_, refl, ap, sym, _∙_}
-use mathlib.Core.Logic.{_⊎_, inl, inr}
+use mathlib.Core.Path.{_≡_, sym}
+use mathlib.Core.Logic.{inl, inr}
 use mathlib.Core.Option.{some}
 use mathlib.Core.List.{List}
-use Prim.Native.Nat.{ℕ, zero, suc, _+_, _<_, _≤_}
+use Prim.Native.Nat.{ℕ, zero, suc, _<_, _≤_}
 use native.Mathlib.Omega.{arith}
-use lib.ListN.{length}
 use Rattle.words.specs.Summaries.{place}
 use Rattle.words.specs.Book.{Summary, Book}
-use Rattle.layout.specs.BookLayout.{entries, mostSummaries, SoundBook}
-use Rattle.layout.specs.Contents.{count, entriesIn}
+use Rattle.layout.specs.BookLayout.{entries, SoundBook}
+use Rattle.layout.specs.Contents.{entriesIn}
 use Rattle.layout.specs.Refusals.{longest, Fault2, Loads, Reads, SoundEntry, Passes}
 use Rattle.layout.proofs.Places.{place-some, place-in, no-place}
 use Rattle.layout.proofs.BookSizes.{book-sizes}

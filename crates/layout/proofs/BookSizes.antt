@@ -1,5 +1,5 @@
 -- "The longest sound book has 25,040 bytes, the shortest 35": from the bounds of its value alone.
-use mathlib.Core.Path.{_≡_, refl, sym, ap, _∙_}
+use mathlib.Core.Path.{_≡_, sym}
 use mathlib.Core.List.{List, _++_, map, map-map}
 use Prim.Native.Nat.{ℕ, _+_, _*_, _≤_}
 use native.Mathlib.Omega.{arith}
@@ -11,7 +11,7 @@ use Rattle.layout.specs.BookLayout.{entries, contentsEnd, questionMost, 
 use Rattle.layout.specs.Refusals.{longest}
 use Rattle.layout.proofs.Joined.{joined-most}
 use Rattle.layout.proofs.Sizes.{within-least, question-most, summary-most}
-use Rattle.layout.proofs.Laid.{laid, book-laid, laid-size}
+use Rattle.layout.proofs.Laid.{book-laid, laid-size}
 
 module _ (b : Book) where
   pub entries-many : length (entriesOf b) ≡ entries (length (b .summaries))

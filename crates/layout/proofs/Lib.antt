@@ -12,4 +12,7 @@ pub mod Starts
 pub mod Stands
 pub mod BookStands
 pub mod BookPasses
+pub mod Gapless
+pub mod BookRead
+pub mod BookUnique
 pub mod BookSizes

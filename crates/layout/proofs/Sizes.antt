@@ -1,7 +1,7 @@
 -- How many bytes a rule has: 5 for each term, so 8 at least; a question 534 and a summary 370 at most.
-use mathlib.Core.Path.{_≡_, refl, ap}
-use mathlib.Core.List.{List, [], _∷_, _++_, map}
-use Prim.Native.Nat.{ℕ, suc, _+_, _*_, _≤_, _<_}
+use mathlib.Core.Path.{_≡_, ap}
+use mathlib.Core.List.{List}
+use Prim.Native.Nat.{ℕ, suc, _+_, _*_, _≤_}
 use native.Mathlib.Omega.{arith}
 use lib.ListN.{length, getD, length-append}
 use Rattle.words.specs.Words.{_∈_, Term, var, con, Subgoal, Rule, Fits}

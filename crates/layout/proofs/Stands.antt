@@ -1,14 +1,14 @@
 -- What stands in the contents of entries that are laid out as a book, and where their bodies stand.
-use mathlib.Core.Path.{_≡_, refl, ap, sym, _∙_}
+use mathlib.Core.Path.{_≡_, ap, sym, _∙_}
 use mathlib.Core.Option.{some}
-use mathlib.Core.List.{List, [], _∷_, _++_, append-assoc}
+use mathlib.Core.List.{List, _++_}
 use Prim.Native.Nat.{ℕ, zero, suc, _+_, _*_, _≤_, _<_}
 use native.Mathlib.Omega.{arith}
-use lib.ListN.{length, take, drop, length-append}
+use lib.ListN.{length, drop}
 use lib.Seq.{drop-drop, take-append-seam}
 use Rattle.words.specs.Words.{_∈_}
 use Rattle.words.specs.Summaries.{place, joined}
-use Rattle.layout.specs.Numbers.{little, value, numberAt}
+use Rattle.layout.specs.Numbers.{little, numberAt}
 use Rattle.layout.specs.BookLayout.{Entry, entries, contentsEnd, contentsFrom, bodies}
 use Rattle.layout.specs.Contents.{count, entriesIn, offsetAt, lengthAt, stampAt, partAt, beginAt, NoGaps}
 use Rattle.layout.proofs.NumberLaws.{value-little}
