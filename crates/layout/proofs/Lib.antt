@@ -15,4 +15,10 @@ pub mod BookPasses
 pub mod Gapless
 pub mod BookRead
 pub mod BookUnique
+pub mod Decide
+pub mod SafeDecided
+pub mod ContentsDecided
+pub mod RefusedExactly
+pub mod RefusedOnce
+pub mod Refused
 pub mod BookSizes
