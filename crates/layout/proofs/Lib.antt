@@ -22,3 +22,4 @@ pub mod RefusedExactly
 pub mod RefusedOnce
 pub mod Refused
 pub mod BookSizes
+pub mod SizesReached
