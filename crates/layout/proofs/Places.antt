@@ -57,3 +57,8 @@ module _ {A : Type 0} where
   places-same [] (b ∷ m) e h = absurd (omega arith)
   places-same (a ∷ l) [] e h = absurd (omega arith)
   places-same (a ∷ l) (b ∷ m) e h = ap₂ _∷_ (h 0 a b refl refl) (places-same l m (omega arith) (λ i. h (suc i)))
+
+  -- What is in a list stands at a place.
+  pub in-place : (l : List A) (a : A) → a ∈ l → (i : ℕ) × (place l (suc i) ≡ some a)
+  in-place (b ∷ l) a (List·Memᴰ·head e) = (0, cc)
+  in-place (b ∷ l) a (List·Memᴰ·tail m) = let w = in-place l a m in (suc (w .0), w .1)
