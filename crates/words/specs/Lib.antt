@@ -4,3 +4,10 @@ pub mod Order
 pub mod Answer
 pub mod Refresh
 pub mod Book
+pub mod Tests
+pub mod Equal
+pub mod Bindings
+pub mod Lists
+pub mod Placings
+pub mod Ways
+pub mod Decide
