@@ -35,6 +35,10 @@ terms-agree k f g [] same = refl
 terms-agree k f g (var x ∷ ts) same = ap₂ _∷_ (same x (List·Memᴰ·head refl)) (terms-agree k f g ts (λ y m. same y (List·Memᴰ·tail m)))
 terms-agree k f g (con c ∷ ts) same = ap (_∷_ (k c)) (terms-agree k f g ts (λ y m. same y (List·Memᴰ·tail m)))
 
+map-same : {A : Type 0} (l : List A) → map (λ a. a) l ≡ l
+map-same [] = refl
+map-same (a ∷ l) = ap (_∷_ a) (map-same l)
+
 -- What stands for a variable of the head becomes its value; so does what stands for another, if `other` does.
 module _ {A B : Type 0} (h : B → A) (k v : ℕ → A) where
   replaced-is : (ss : List (Term ℕ)) (ts : List B) (other : ℕ → B) → map (becomes k v) ss ≡ map h ts → (x : ℕ) → (var x ∈ ss) ⊎ (h (other x) ≡ v x) → h (replaced ss ts other x) ≡ v x
@@ -56,6 +60,22 @@ module _ {A B : Type 0} (h : B → A) (k v : ℕ → A) where
       go false q ih (inl (List·Memᴰ·tail m)) = ih (inl m)
       go false q ih (inr i) = ih (inr i)
 
+-- The summary's head becomes the given terms.
+pub head-becomes : {X : Type 0} (s : Summaries) (u : ℕ) (g : Subgoal (Term X)) → Suits s g → map (becomes con (inUse s u g)) (definition s (g .relation) .head) ≡ map (becomes con kept) (g .terms)
+head-becomes {X} s u g suits = terms-agree con (inUse s u g) v head (λ x m. replaced-is (λ t. t) con v head (map (becomes con kept) (g .terms)) (λ x. var (fresh u x)) (given ∙ sym (map-same (map (becomes con kept) (g .terms)))) x (inl m)) ∙ given
+  where
+    w : Yields con (definition s (g .relation)) Anything (g .terms)
+    w = its-yield s g suits
+
+    head : List (Term ℕ)
+    head = definition s (g .relation) .head
+
+    v : ℕ → Term (Own X)
+    v x = becomes con kept (w .value x)
+
+    given : map (becomes con v) head ≡ map (becomes con kept) (g .terms)
+    given = sym (terms-after con (w .value) kept head) ∙ ap (map (becomes con kept)) (w .gives)
+
 -- One use: the summary's body in place, and what the summary yields.
 module _ {A X : Type 0} (k : ℕ → A) (s : Summaries) (d : Facts A) (ξ : Own X → A) where
   pub use-back : (u : ℕ) (g : Subgoal (Term X)) → Suits s g → ((c : Subgoal (Term (Own X))) → c ∈ inPlace s u g → d (each (becomes k ξ) c))
@@ -64,29 +84,11 @@ module _ {A X : Type 0} (k : ℕ → A) (s : Summaries) (d : Facts A) (ξ : Own 
     rule = definition s (g .relation);
     admitted = its-rule s (g .relation) (suits .admitted);
     yields = record {
-      value = value;
-      gives = terms-agree k value v head (λ x m. replaced-is (becomes k ξ) k v head (map (becomes con kept) (g .terms)) (λ x. var (fresh u x)) (given ∙ sym own) x (inl m)) ∙ given;
+      value = λ x. becomes k ξ (inUse s u g x);
+      gives = sym (terms-after k (inUse s u g) ξ (definition s (g .relation) .head)) ∙ ap (map (becomes k ξ)) (head-becomes s u g suits) ∙ terms-after k kept ξ (g .terms);
       holds = λ c m. rw (subgoal-after k (inUse s u g) ξ c) at (holds _ (Memᴰ·map (each (becomes con (inUse s u g))) m));
     };
   }
-    where
-      w : Yields con (definition s (g .relation)) Anything (g .terms)
-      w = its-yield s g suits
-
-      head : List (Term ℕ)
-      head = definition s (g .relation) .head
-
-      value : ℕ → A
-      value x = becomes k ξ (inUse s u g x)
-
-      v : ℕ → A
-      v x = becomes k (λ y. ξ (old y)) (w .value x)
-
-      own : map (becomes k ξ) (map (becomes con kept) (g .terms)) ≡ map (becomes k (λ x. ξ (old x))) (g .terms)
-      own = terms-after k kept ξ (g .terms)
-
-      given : map (becomes k v) head ≡ map (becomes k (λ x. ξ (old x))) (g .terms)
-      given = sym (terms-after k (w .value) (λ y. ξ (old y)) head) ∙ ap (map (becomes k (λ y. ξ (old y)))) (w .gives)
 
   pub use-forth : (u : ℕ) (g : Subgoal (Term X)) (y : Yields k (definition s (g .relation)) d (map (becomes k (λ x. ξ (old x))) (g .terms)))
       → ((x : ℕ) → ξ (fresh u x) ≡ y .value x) → (c : Subgoal (Term (Own X))) → c ∈ inPlace s u g → d (each (becomes k ξ) c)
@@ -107,7 +109,7 @@ expansion-back k s d r row suits y = record {
       use-back k s d (y .value) (w .0) g (suits g m) (λ c i. y .holds c (in-use s 0 (r .body) c record { by = w .0; of = g; at = w .1; inside = rw add-zero i }));
 }
 
-abbrev extended : {A X : Type 0} → (X → A) → (ℕ → ℕ → A) → Own X → A
+abbrev pub extended : {A X : Type 0} → (X → A) → (ℕ → ℕ → A) → Own X → A
 extended ν own (old x) = ν x
 extended ν own (fresh u x) = own u x
 

@@ -5,3 +5,5 @@ pub mod Held
 pub mod Fit
 pub mod Freeze
 pub mod Contain
+pub mod Rows
+pub mod Part
