@@ -30,7 +30,7 @@ its-rule s n e = e ∙ ap some (sym (ap orEmpty e))
 pub its-yield : {A : Type 0} {k : ℕ → A} (s : Summaries) {d : Facts A} (f : Subgoal A) → Yielded k s d f → Yields k (definition s (f .relation)) d (f .terms)
 its-yield {A} {k} s {d} f y = subst (λ r. Yields k r d (f .terms)) (sym (ap orEmpty (y .admitted))) (y .yields)
 
-terms-agree : {A X : Type 0} (k : ℕ → A) (f g : X → A) (ts : List (Term X)) → ((x : X) → var x ∈ ts → f x ≡ g x) → map (becomes k f) ts ≡ map (becomes k g) ts
+pub terms-agree : {A X : Type 0} (k : ℕ → A) (f g : X → A) (ts : List (Term X)) → ((x : X) → var x ∈ ts → f x ≡ g x) → map (becomes k f) ts ≡ map (becomes k g) ts
 terms-agree k f g [] same = refl
 terms-agree k f g (var x ∷ ts) same = ap₂ _∷_ (same x (List·Memᴰ·head refl)) (terms-agree k f g ts (λ y m. same y (List·Memᴰ·tail m)))
 terms-agree k f g (con c ∷ ts) same = ap (_∷_ (k c)) (terms-agree k f g ts (λ y m. same y (List·Memᴰ·tail m)))

@@ -1,9 +1,11 @@
 pub mod Carry
 pub mod Places
 pub mod Expand
+pub mod Suit
 pub mod Held
 pub mod Fit
 pub mod Freeze
 pub mod Contain
 pub mod Rows
 pub mod Part
+pub mod Same
