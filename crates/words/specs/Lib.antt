@@ -11,3 +11,5 @@ pub mod Lists
 pub mod Placings
 pub mod Ways
 pub mod Decide
+pub mod Strict
+pub mod Orders
