@@ -9,3 +9,5 @@ pub mod Contain
 pub mod Rows
 pub mod Part
 pub mod Same
+pub mod Back
+pub mod Extend
