@@ -6,7 +6,7 @@ use mathlib.Core.List.{List, [], _∷_, _++_, map, List·Memᴰ·head, List·Mem
 use Prim.Native.Nat.{ℕ, zero, suc, _≤_, _<_}
 use native.Mathlib.Omega.{arith}
 use lib.ListN.{length}
-use Rattle.words.specs.Words.{_∈_, Term, con, Subgoal, Rule, Facts, becomes, each, Mapping}
+use Rattle.words.specs.Words.{_∈_, Term, var, con, Subgoal, Rule, Facts, becomes, each, Mapping}
 use Rattle.words.specs.Summaries.{place, Summaries, orNone, summary, orEmpty, definition, Yielded, Own, kept, inUse, replaced, fresh, inPlace, uses, joined, expansion, Equivalent, rewriting}
 use Rattle.words.specs.Order.{ShorterFirst, First}
 use Rattle.words.specs.Answer.{Rewrites, Answer}
@@ -36,17 +36,18 @@ module _ (s t : Summaries) (more : Extends s t) where
   pub extend-yielded : {A : Type 0} {k : ℕ → A} {d : Facts A} (f : Subgoal A) → Yielded k s d f → Yielded k t d f
   extend-yielded f y = record { rule = y .rule; admitted = more (f .relation) (y .rule) (y .admitted); yields = y .yields }
 
-  extend-uses : {X : Type 0} (u : ℕ) (gs : List (Subgoal (Term X))) → ((g : Subgoal (Term X)) → g ∈ gs → definition s (g .relation) ≡ definition t (g .relation)) → uses s u gs ≡ uses t u gs
-  extend-uses u [] same = refl
-  extend-uses u (g ∷ gs) same =
-      ap₂ _∷_ (ap (λ (d : Rule ℕ). map (each (becomes con (replaced (d .head) (map (becomes con kept) (g .terms)) (λ x. Term.var (fresh u x))))) (d .body)) (same g (List·Memᴰ·head refl)))
-      (extend-uses (suc u) gs (λ b m. same b (List·Memᴰ·tail m)))
+  uses-same : {X : Type 0} (u : ℕ) (gs : List (Subgoal (Term X))) → ((g : Subgoal (Term X)) → g ∈ gs → definition s (g .relation) ≡ definition t (g .relation)) → uses s u gs ≡ uses t u gs
+  uses-same u [] same = refl
+  uses-same u (g ∷ gs) same =
+      ap₂ _∷_ (ap (λ (d : Rule ℕ). map (each (becomes con (replaced (d .head) (map (becomes con kept) (g .terms)) (λ x. var (fresh u x))))) (d .body)) (same g (List·Memᴰ·head refl)))
+      (uses-same (suc u) gs (λ b m. same b (List·Memᴰ·tail m)))
+
+  -- Over admitted summaries the uses, and so the expansion, are the same.
+  pub extend-uses : {X : Type 0} (u : ℕ) (gs : List (Subgoal (Term X))) → ((g : Subgoal (Term X)) → g ∈ gs → (r : Rule ℕ) × (summary s (g .relation) ≡ some r)) → uses s u gs ≡ uses t u gs
+  extend-uses u gs over = uses-same u gs (λ g m. let a = over g m in ap orEmpty (a .1) ∙ sym (ap orEmpty (more (g .relation) (a .0) (a .1))))
 
   pub extend-expansion : {X : Type 0} (r : Rule X) → OverAdmitted s r → expansion s r ≡ expansion t r
-  extend-expansion r over = λ i. record { head = map (becomes con kept) (r .head); body = joined (extend-uses 0 (r .body) same i) }
-    where
-      same : (g : Subgoal (Term _)) → g ∈ r .body → definition s (g .relation) ≡ definition t (g .relation)
-      same g m = let a = over g m in ap orEmpty (a .1) ∙ sym (ap orEmpty (more (g .relation) (a .0) (a .1)))
+  extend-expansion r over = λ i. record { head = map (becomes con kept) (r .head); body = joined (extend-uses 0 (r .body) over i) }
 
   pub extend-rewrites : (q : Rule ℕ) (l : List (Subgoal (Term ℕ))) → Rewrites s q l → Rewrites t q l
   extend-rewrites q l w = record {

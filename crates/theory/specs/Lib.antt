@@ -11,3 +11,4 @@ pub mod Part
 pub mod Same
 pub mod Back
 pub mod Extend
+pub mod Alone

@@ -1,0 +1,85 @@
+-- Theorem 6: the answer and its witness depend on the question and the admitted summaries with their numbers alone.
+use mathlib.Core.Path.{_≡_, refl, sym, ap, ap₂, _∙_, subst}
+use mathlib.Core.Logic.{_⊎_, inl, inr, _↔_}
+use mathlib.Core.Bool.{Bool, true, false}
+use mathlib.Core.Option.{Option, some, none}
+use mathlib.Core.List.{List, [], _∷_, map}
+use Prim.Native.Nat.{ℕ}
+use Rattle.words.specs.Words.{_∈_, Term, Subgoal, Rule}
+use Rattle.words.specs.Summaries.{Summaries, summary, uses, expansion, rewriting}
+use Rattle.words.specs.Order.{First}
+use Rattle.words.specs.Answer.{Rewrites, Answer, AtPairs, Sends, There, Back, FirstThere, FirstBack}
+use Rattle.words.specs.Refresh.{admitted}
+use Rattle.words.specs.Book.{Summary, Book, ifTrue, admittedOf}
+use Rattle.theory.specs.Held.{OverAdmitted}
+use Rattle.theory.specs.Extend.{Extends, extend-uses, extend-expansion, extend-rewrites}
+
+-- The same summaries are admitted, under the same numbers.
+abbrev pub SameAdmitted : Summaries → Summaries → Type 0
+SameAdmitted s t = Extends s t × Extends t s
+
+-- The same answers, and for an answer the same witness, first byte by byte.
+pub record SameAnswers (s : Summaries) (q : Rule ℕ) (t : Summaries) (p : Rule ℕ) : Type 0 where
+  pub answers : (l : List (Subgoal (Term ℕ))) → Answer s q l ↔ Answer t p l
+  pub theres : (l : List (Subgoal (Term ℕ))) → Answer s q l → (bytes : List ℕ) → FirstThere s q (rewriting q l) bytes ↔ FirstThere t p (rewriting p l) bytes
+  pub backs : (l : List (Subgoal (Term ℕ))) → Answer s q l → (bytes : List ℕ) → FirstBack s q (rewriting q l) bytes ↔ FirstBack t p (rewriting p l) bytes
+
+first-same : {A : Type 0} {P Q : A → Type 0} {Before : A → A → Type 0} → ((a : A) → P a ↔ Q a) → (a : A) → First P Before a ↔ First Q Before a
+first-same same a = (
+  λ f. record { holds = same a .0 (f .holds); least = λ b q. f .least b (same b .1 q) },
+  λ f. record { holds = same a .1 (f .holds); least = λ b p. f .least b (same b .0 p) },
+)
+
+there-extends : (s t : Summaries) → Extends s t → (q r : Rule ℕ) → OverAdmitted s r → (bytes : List ℕ) → There s q r bytes → There t q r bytes
+there-extends s t more q r over bytes w = record { targets = w .targets; named = subst (λ us. AtPairs us bytes (w .targets)) (extend-uses s t more 0 (r .body) over) (w .named); mapping = w .mapping }
+
+back-extends : (s t : Summaries) → Extends s t → (q r : Rule ℕ) → OverAdmitted s r → (bytes : List ℕ) → Back s q r bytes → Back t q r bytes
+back-extends s t more q r over bytes w = record { targets = w .targets; named = w .named; mapping = subst (λ z. Sends z (q .head) (w .targets)) (extend-expansion s t more r over) (w .mapping) }
+
+pub same-answers : (s t : Summaries) → SameAdmitted s t → (q : Rule ℕ) → SameAnswers s q t q
+same-answers s t same q = record {
+  answers = first-same (λ l. (extend-rewrites s t (same .0) q l, extend-rewrites t s (same .1) q l));
+  theres = λ l a. first-same (λ bytes. (there-extends s t (same .0) q (rewriting q l) (over l a) bytes, there-extends t s (same .1) q (rewriting q l) (over′ l a) bytes));
+  backs = λ l a. first-same (λ bytes. (back-extends s t (same .0) q (rewriting q l) (over l a) bytes, back-extends t s (same .1) q (rewriting q l) (over′ l a) bytes));
+}
+  where
+    over : (l : List (Subgoal (Term ℕ))) → Answer s q l → OverAdmitted s (rewriting q l)
+    over l a g m = let w = a .holds .rows g m in (w .rule, w .admitted)
+
+    over′ : (l : List (Subgoal (Term ℕ))) → Answer s q l → OverAdmitted t (rewriting q l)
+    over′ l a g m = let w = over l a g m in (w .0, same .0 (g .relation) (w .0) (w .1))
+
+-- Two books with the same question and the same admitted summaries.
+pub books-same : (b c : Book) → b .question ≡ c .question → SameAdmitted (admittedOf b) (admittedOf c) → SameAnswers (admittedOf b) (b .question) (admittedOf c) (c .question)
+books-same b c question same = subst (SameAnswers (admittedOf b) (b .question) (admittedOf c)) question (same-answers (admittedOf b) (admittedOf c) same (b .question))
+
+abbrev pub LeftOut : ℕ → Summary → Type 0
+LeftOut need m = admitted need (m .stamp) (m .rule) ≡ false
+
+-- "another sound definition or another stamp, so long as it stays left out": summary by summary the same, or left out in both.
+abbrev pub SameButLeftOut : ℕ → List Summary → List Summary → Type 0
+SameButLeftOut need [] [] = Unit {0}
+SameButLeftOut need [] (n ∷ ns) = ⊥
+SameButLeftOut need (m ∷ ms) [] = ⊥
+SameButLeftOut need (m ∷ ms) (n ∷ ns) = ((m ≡ n) ⊎ (LeftOut need m × LeftOut need n)) × SameButLeftOut need ms ns
+
+abbrev ruleOf : ℕ → Summary → Option (Rule ℕ)
+ruleOf need m = ifTrue (admitted need (m .stamp) (m .rule)) (m .rule)
+
+left-out-same : (need : ℕ) (m n : Summary) → (m ≡ n) ⊎ (LeftOut need m × LeftOut need n) → ruleOf need m ≡ ruleOf need n
+left-out-same need m n (inl e) = ap (ruleOf need) e
+left-out-same need m n (inr h) = ap (λ b. ifTrue b (m .rule)) (h .0) ∙ sym (ap (λ b. ifTrue b (n .rule)) (h .1))
+
+pub left-out-admitted : (need : ℕ) (ms ns : List Summary) → SameButLeftOut need ms ns → map (ruleOf need) ms ≡ map (ruleOf need) ns
+left-out-admitted need [] [] h = refl
+left-out-admitted need [] (n ∷ ns) h = absurd h
+left-out-admitted need (m ∷ ms) [] h = absurd h
+left-out-admitted need (m ∷ ms) (n ∷ ns) h = ap₂ _∷_ (left-out-same need m n (h .0)) (left-out-admitted need ms ns (h .1))
+
+-- "A summary left out has no say"
+pub left-out-no-say : (b c : Book) → b .question ≡ c .question → b .need ≡ c .need → SameButLeftOut (b .need) (b .summaries) (c .summaries)
+    → SameAnswers (admittedOf b) (b .question) (admittedOf c) (c .question)
+left-out-no-say b c question need h = books-same b c question (λ n r e. subst (λ s. summary s n ≡ some r) same e, λ n r e. subst (λ s. summary s n ≡ some r) (sym same) e)
+  where
+    same : admittedOf b ≡ admittedOf c
+    same = left-out-admitted (b .need) (b .summaries) (c .summaries) h ∙ ap (λ n. map (ruleOf n) (c .summaries)) need
