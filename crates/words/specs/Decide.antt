@@ -26,7 +26,7 @@ some-any (b ∷ l) m = tt
 abbrev pub unnamed : {A : Type 0} → Subgoal A → Target A
 unnamed f = record { bytes = []; fact = f }
 
-facts-unnamed : {A : Type 0} (l : List (Subgoal A)) → map factOf (map unnamed l) ≡ l
+pub facts-unnamed : {A : Type 0} (l : List (Subgoal A)) → map factOf (map unnamed l) ≡ l
 facts-unnamed [] = refl
 facts-unnamed (f ∷ l) = ap (_∷_ f) (facts-unnamed l)
 

@@ -13,3 +13,10 @@ pub mod Ways
 pub mod Decide
 pub mod Strict
 pub mod Orders
+pub mod Rising
+pub mod Enumerate
+pub mod Sorted
+pub mod Sound
+pub mod Counted
+pub mod RowsYielded
+pub mod Rows
