@@ -10,5 +10,7 @@ pub mod Rows
 pub mod Part
 pub mod Same
 pub mod Back
+pub mod Normal
+pub mod Differ
 pub mod Extend
 pub mod Alone
