@@ -20,3 +20,6 @@ pub mod Sound
 pub mod Counted
 pub mod RowsYielded
 pub mod Rows
+pub mod Sublists
+pub mod Equivalents
+pub mod Rewritings

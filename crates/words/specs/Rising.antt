@@ -28,6 +28,11 @@ rising-gather before under f (a ∷ l) p part across =
     (rising-gather before under f l (p .1) (λ b i. part b (List·Memᴰ·tail i)) (λ b c i j. across b c (List·Memᴰ·tail i) (List·Memᴰ·tail j)))
     (λ x y i j. let w = gather-out f l j in across a (w .0) (List·Memᴰ·head refl) (List·Memᴰ·tail (w .1)) (p .0 (w .0) (w .1)) x y i (w .2))
 
+-- by another order that the members keep
+pub rising-by : {A : Type 0} (before under : A → A → Type 0) (l : List A) → Rising before l → ((a b : A) → a ∈ l → b ∈ l → before a b → under a b) → Rising under l
+rising-by before under [] p h = tt
+rising-by before under (a ∷ l) p h = (λ b i. h a b (List·Memᴰ·head refl) (List·Memᴰ·tail i) (p .0 b i), rising-by before under l (p .1) (λ b c i j. h b c (List·Memᴰ·tail i) (List·Memᴰ·tail j)))
+
 pub rising-map : {A B : Type 0} (before : A → A → Type 0) (under : B → B → Type 0) (f : A → B) (l : List A) → Rising before l
     → ((a b : A) → a ∈ l → b ∈ l → before a b → under (f a) (f b)) → Rising under (map f l)
 rising-map before under f [] p h = tt
