@@ -14,3 +14,5 @@ pub mod Normal
 pub mod Differ
 pub mod Extend
 pub mod Alone
+pub mod Sound
+pub mod Demand3

@@ -3,12 +3,15 @@ use mathlib.Core.Path.{_≡_, refl}
 use mathlib.Core.Logic.{_↔_, Iff·trans}
 use mathlib.Core.List.{List}
 use Prim.Native.Nat.{ℕ}
-use Rattle.words.specs.Words.{_∈_, Term, Subgoal, Rule, Facts, Yields, itself}
+use Rattle.words.specs.Words.{_∈_, Term, Subgoal, Rule, Facts, Listed, AllFit, Yields, itself}
 use Rattle.words.specs.Summaries.{Summaries, Yielded, HoldJust, expansion, Equivalent, rewriting}
-use Rattle.words.specs.Answer.{Rewrites, Answer}
+use Rattle.words.specs.Answer.{Rewrites}
+use Rattle.words.specs.Equal.{Eq, eqNumber, eqOwn}
 use Rattle.theory.specs.Carry.{contains}
 use Rattle.theory.specs.Expand.{SuitAll, expansion-back, expansion-forth}
 use Rattle.theory.specs.Held.{OverAdmitted, over-held}
+use Rattle.theory.specs.Fit.{FitEvery, fit-expansion}
+use Rattle.theory.specs.Contain.{mappings-same}
 use Rattle.theory.specs.Rows.{row-suits}
 
 pub suit-admitted : {X : Type 0} (s : Summaries) (r : Rule X) → SuitAll s r → OverAdmitted s r
@@ -30,3 +33,14 @@ rewrites-suit w g m = row-suits g (w .rows g m)
 pub rewrites-held : (s : Summaries) (q : Rule ℕ) (l : List (Subgoal (Term ℕ))) → Rewrites s q l → (d held : Facts ℕ) → HoldJust s d held → (row : List ℕ)
     → Yields itself (rewriting q l) held row ↔ Yields itself q d row
 rewrites-held s q l w = equivalent-held s q (rewriting q l) (rewrites-suit w) (w .equivalent)
+
+-- So 'equivalent by mappings' and 'the same rows on all finite facts' are one, for rewritings too.
+pub equivalent-is-same : {X : Type 0} (arities : List ℕ) → Eq X → (s : Summaries) (q : Rule ℕ) (r : Rule X) → SuitAll s r → AllFit arities (q .body) → FitEvery arities s
+    → Equivalent s q r ↔ ((d : List (Subgoal ℕ)) → AllFit arities d → (row : List ℕ) → Yields itself r (Yielded itself s (Listed d)) row ↔ Yields itself q (Listed d) row)
+equivalent-is-same arities e s q r suits fitq fits = (λ w d f row. equivalent-same itself s q r suits w (Listed d) row, λ same. back same)
+  where
+    back : ((d : List (Subgoal ℕ)) → AllFit arities d → (row : List ℕ) → Yields itself r (Yielded itself s (Listed d)) row ↔ Yields itself q (Listed d) row) → Equivalent s q r
+    back same =
+        let m = mappings-same arities eqNumber (eqOwn e) q (expansion s r) fitq (fit-expansion arities s fits r) .1
+        (λ d f row. (λ y. expansion-forth itself s (Listed d) r row (same d f row .1 y), λ y. same d f row .0 (expansion-back itself s (Listed d) r row suits y))) in
+        record { there = m .0; back = m .1 }
