@@ -8,7 +8,7 @@ use Rattle.words.specs.Words.{_∈_, Term, con, Subgoal, Rule, becomes, each, M
 use Rattle.words.specs.Summaries.{Summaries, expansion, rewriting}
 use Rattle.words.specs.Answer.{AtPlaces, Back}
 use Rattle.theory.specs.Places.{place-of}
-use Rattle.theory.specs.Rows.{AllRows, rows-back}
+use Rattle.theory.specs.ListsOfRows.{AllRows, rows-back}
 
 at-places : {A : Type 0} (l gs : List A) → ((g : A) → g ∈ gs → g ∈ l) → (bytes : List ℕ) × AtPlaces l bytes gs
 at-places l [] within = ([], tt)

@@ -17,7 +17,7 @@ use Rattle.theory.specs.Expand.{SuitAll, expansion-back}
 use Rattle.theory.specs.Held.{Every, yielded-carry, OverAdmitted, over-held}
 use Rattle.theory.specs.Fit.{FitEvery, fit-each, fit-expansion}
 use Rattle.theory.specs.Freeze.{Below, high, below-high, freeze, frozen, frozenRow, yields-frozen, melt, melt-constant, melt-fact, melted, converse}
-use Rattle.theory.specs.Rows.{row-suits, Image, image}
+use Rattle.theory.specs.ListsOfRows.{row-suits, Image, image}
 use Rattle.theory.specs.Normal.{put-in-order, answer-least}
 
 -- Just one of the two.

@@ -6,7 +6,7 @@ pub mod Held
 pub mod Fit
 pub mod Freeze
 pub mod Contain
-pub mod Rows
+pub mod ListsOfRows
 pub mod Part
 pub mod Same
 pub mod Back

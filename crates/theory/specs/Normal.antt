@@ -20,7 +20,7 @@ use Rattle.words.specs.Sound.{AllSafe}
 use Rattle.words.specs.Rows.{allRows, allRows-sound, allRows-complete, allRows-ascending}
 use Rattle.theory.specs.Expand.{SuitAll}
 use Rattle.theory.specs.Suit.{DistinctHeads, over-suit-all}
-use Rattle.theory.specs.Rows.{row-suits, AllRows, rows-back, there-more, Image, image-of}
+use Rattle.theory.specs.ListsOfRows.{row-suits, AllRows, rows-back, there-more, Image, image-of}
 use Rattle.theory.specs.Part.{part, part-long, part-within, part-there}
 
 module _ {A : Type 0} {Before : A → A → Type 0} (o : Strict Before) where
