@@ -1,4 +1,4 @@
--- Numbers one after the other; places of a list.
+-- Numbers one after the other, and the places of a list in their order.
 use mathlib.Core.Path.{_≡_, refl, sym, subst}
 use mathlib.Core.Logic.{_⊎_, inl, inr}
 use mathlib.Core.Option.{Option, some, none, Option·none-ne-some}
@@ -9,7 +9,8 @@ use native.Mathlib.Nat.{eq-or-lt-of-le}
 use lib.ListN.{length}
 use Rattle.words.specs.Words.{_∈_}
 use Rattle.words.specs.Summaries.{place}
-use Rattle.words.specs.Rising.{Rising}
+use Rattle.words.specs.Lists.{gather, gather-in, gather-out, from, from-out}
+use Rattle.words.specs.Rising.{Rising, rising-gather}
 
 -- m numbers from n on
 abbrev pub counted : ℕ → ℕ → List ℕ
@@ -39,3 +40,27 @@ place-within [] n a e = absurd (Option·none-ne-some a e)
 place-within (b ∷ l) zero a e = absurd (Option·none-ne-some a e)
 place-within (b ∷ l) (suc zero) a e = (omega arith, omega arith)
 place-within (b ∷ l) (suc (suc n)) a e = let r = place-within l (suc n) a e in (omega arith, omega arith)
+
+-- What each place of a list makes of the number and what stands there, in the order of the places.
+abbrev pub everyPlace : {A B : Type 0} → (ℕ → A → List B) → List A → List B
+everyPlace f l = gather (λ n. from (f n) (place l n)) (counted 1 (length l))
+
+pub everyPlace-in : {A B : Type 0} (f : ℕ → A → List B) (l : List A) (n : ℕ) (a : A) {b : B} → place l n ≡ some a → b ∈ f n a → b ∈ everyPlace f l
+everyPlace-in f l n a {b} e i =
+    let w = place-within l n a e in
+    gather-in (λ n. from (f n) (place l n)) (counted 1 (length l)) (counted-in 1 (length l) n (w .0) (omega arith)) (subst (λ o. b ∈ from (f n) o) (sym e) i)
+
+pub everyPlace-out : {A B : Type 0} (f : ℕ → A → List B) (l : List A) {b : B} → b ∈ everyPlace f l → (n : ℕ) × (a : A) × (place l n ≡ some a) × (b ∈ f n a)
+everyPlace-out f l m =
+    let n = gather-out (λ n. from (f n) (place l n)) (counted 1 (length l)) m in
+    let a = from-out (f (n .0)) (place l (n .0)) (n .2) in
+    (n .0, a .0, a .1, a .2)
+
+pub everyPlace-rising : {A B : Type 0} (under : B → B → Type 0) (f : ℕ → A → List B) (l : List A) → ((n : ℕ) (a : A) → Rising under (f n a))
+    → ((n m : ℕ) → n < m → (a b : A) (x y : B) → x ∈ f n a → y ∈ f m b → under x y) → Rising under (everyPlace f l)
+everyPlace-rising {A} {B} under f l part across = rising-gather _<_ under (λ n. from (f n) (place l n)) (counted 1 (length l)) (counted-rising 1 (length l)) (λ n i. one n (place l n))
+    (λ n m i j h x y p q. let a = from-out (f n) (place l n) p in let b = from-out (f m) (place l m) q in across n m h (a .0) (b .0) x y (a .2) (b .2))
+  where
+    one : (n : ℕ) (o : Option A) → Rising under (from (f n) o)
+    one n none = tt
+    one n (some a) = part n a

@@ -23,3 +23,5 @@ pub mod Rows
 pub mod Sublists
 pub mod Equivalents
 pub mod Rewritings
+pub mod Named
+pub mod Witness
