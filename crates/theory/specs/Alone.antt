@@ -12,6 +12,7 @@ use Rattle.words.specs.Answer.{Rewrites, Answer, AtPairs, Sends, There, Back, F
 use Rattle.words.specs.Refresh.{admitted}
 use Rattle.words.specs.Book.{Summary, Book, ifTrue, admittedOf}
 use Rattle.theory.specs.Held.{OverAdmitted}
+use Rattle.theory.specs.Sound.{ruleOf}
 use Rattle.theory.specs.Extend.{Extends, extend-uses, extend-expansion, extend-rewrites}
 
 -- The same summaries are admitted, under the same numbers.
@@ -62,9 +63,6 @@ SameButLeftOut need [] [] = Unit {0}
 SameButLeftOut need [] (n ∷ ns) = ⊥
 SameButLeftOut need (m ∷ ms) [] = ⊥
 SameButLeftOut need (m ∷ ms) (n ∷ ns) = ((m ≡ n) ⊎ (LeftOut need m × LeftOut need n)) × SameButLeftOut need ms ns
-
-abbrev ruleOf : ℕ → Summary → Option (Rule ℕ)
-ruleOf need m = ifTrue (admitted need (m .stamp) (m .rule)) (m .rule)
 
 left-out-same : (need : ℕ) (m n : Summary) → (m ≡ n) ⊎ (LeftOut need m × LeftOut need n) → ruleOf need m ≡ ruleOf need n
 left-out-same need m n (inl e) = ap (ruleOf need) e

@@ -11,6 +11,7 @@ use borrow.Author.Tests.{eqb-true, eqb-false}
 use lib.Dec.{eqb}
 use Rattle.words.specs.Words.{_∈_, Term, var, con, Subgoal, Rule, Facts, Listed, becomes, each, Yields, Mapping}
 use Rattle.words.specs.Summaries.{place, Summaries, summary, orEmpty, definition, Yielded, Own, old, fresh, replaced, kept, inUse, inPlace, uses, joined, expansion}
+use Rattle.words.specs.Lists.{map-same}
 use Rattle.theory.specs.Carry.{terms-after, subgoal-after, contains, identity}
 use Rattle.theory.specs.Places.{place-of, at-place, Used, used, in-use}
 
@@ -31,13 +32,15 @@ pub its-yield : {A : Type 0} {k : ℕ → A} (s : Summaries) {d : Facts A} (f : 
 its-yield {A} {k} s {d} f y = subst (λ r. Yields k r d (f .terms)) (sym (ap orEmpty (y .admitted))) (y .yields)
 
 pub terms-agree : {A X : Type 0} (k : ℕ → A) (f g : X → A) (ts : List (Term X)) → ((x : X) → var x ∈ ts → f x ≡ g x) → map (becomes k f) ts ≡ map (becomes k g) ts
-terms-agree k f g [] same = refl
-terms-agree k f g (var x ∷ ts) same = ap₂ _∷_ (same x (List·Memᴰ·head refl)) (terms-agree k f g ts (λ y m. same y (List·Memᴰ·tail m)))
-terms-agree k f g (con c ∷ ts) same = ap (_∷_ (k c)) (terms-agree k f g ts (λ y m. same y (List·Memᴰ·tail m)))
+terms-agree {A} {X} k f g ts same = map-same (becomes k f) (becomes k g) ts at
+  where
+    at : (t : Term X) → t ∈ ts → becomes k f t ≡ becomes k g t
+    at (var x) m = same x m
+    at (con c) m = refl
 
-map-same : {A : Type 0} (l : List A) → map (λ a. a) l ≡ l
-map-same [] = refl
-map-same (a ∷ l) = ap (_∷_ a) (map-same l)
+map-itself : {A : Type 0} (l : List A) → map (λ a. a) l ≡ l
+map-itself [] = refl
+map-itself (a ∷ l) = ap (_∷_ a) (map-itself l)
 
 -- What stands for a variable of the head becomes its value; so does what stands for another, if `other` does.
 module _ {A B : Type 0} (h : B → A) (k v : ℕ → A) where
@@ -62,7 +65,7 @@ module _ {A B : Type 0} (h : B → A) (k v : ℕ → A) where
 
 -- The summary's head becomes the given terms.
 pub head-becomes : {X : Type 0} (s : Summaries) (u : ℕ) (g : Subgoal (Term X)) → Suits s g → map (becomes con (inUse s u g)) (definition s (g .relation) .head) ≡ map (becomes con kept) (g .terms)
-head-becomes {X} s u g suits = terms-agree con (inUse s u g) v head (λ x m. replaced-is (λ t. t) con v head (map (becomes con kept) (g .terms)) (λ x. var (fresh u x)) (given ∙ sym (map-same (map (becomes con kept) (g .terms)))) x (inl m)) ∙ given
+head-becomes {X} s u g suits = terms-agree con (inUse s u g) v head (λ x m. replaced-is (λ t. t) con v head (map (becomes con kept) (g .terms)) (λ x. var (fresh u x)) (given ∙ sym (map-itself (map (becomes con kept) (g .terms)))) x (inl m)) ∙ given
   where
     w : Yields con (definition s (g .relation)) Anything (g .terms)
     w = its-yield s g suits

@@ -12,7 +12,7 @@ pub mod Same
 pub mod Back
 pub mod Normal
 pub mod Differ
+pub mod Sound
 pub mod Extend
 pub mod Alone
-pub mod Sound
 pub mod Demand3

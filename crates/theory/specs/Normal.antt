@@ -14,12 +14,13 @@ use Rattle.words.specs.Equal.{eqNumber, eqOwn}
 use Rattle.words.specs.Decide.{decMapping}
 use Rattle.words.specs.Strict.{Strict}
 use Rattle.words.specs.Orders.{rowOrder}
-use Rattle.words.specs.Rising.{rising-ascending}
+use Rattle.words.specs.Rising.{rising-ascending, ascending-rising}
+use Rattle.words.specs.Sublists.{sublists, is-sublist}
 use Rattle.words.specs.Sorted.{insert, sorted, sorted-in, sorted-out, sorted-rising}
 use Rattle.words.specs.Sound.{AllSafe}
-use Rattle.words.specs.Rows.{allRows, allRows-sound, allRows-complete, allRows-ascending}
+use Rattle.words.specs.Rows.{allRows, allRows-sound, allRows-complete, allRows-ascending, allRows-enumerate}
 use Rattle.theory.specs.Expand.{SuitAll}
-use Rattle.theory.specs.Suit.{DistinctHeads, over-suit-all}
+use Rattle.theory.specs.Suit.{DistinctHeads, suits-over, over-suit-all}
 use Rattle.theory.specs.ListsOfRows.{row-suits, AllRows, rows-back, there-more, Image, image-of}
 use Rattle.theory.specs.Part.{part, part-long, part-within, part-there}
 
@@ -97,6 +98,13 @@ normal s q p suits e =
 pub normal-over : {X : Type 0} (s : Summaries) → DistinctHeads s → (q : Rule ℕ) (p : Rule X) → OverAll s p → Equivalent s q p → Ordered s q (length (p .body))
 normal-over s distinct q p over = normal s q p (over-suit-all s distinct p over)
 
+-- So 'no equivalent rewriting' (refusal 10) and 'no equivalent list of summary rows' are one.
+pub any-rewriting : (s : Summaries) → DistinctHeads s → (q : Rule ℕ) → ((p : Rule ℕ) × OverAll s p × Equivalent s q p) ↔ ((l : List (Subgoal (Term ℕ))) × Rewrites s q l)
+any-rewriting s distinct q = (
+  λ w. let o = normal-over s distinct q (w .0) (w .1) (w .2) in (o .list, o .rewrites),
+  λ w. (rewriting q (w .0), λ g m. suits-over s g (row-suits g (w .1 .rows g m)), w .1 .equivalent),
+)
+
 -- The list of all rows decides whether any list works.
 pub all-rows-decide : (s : Summaries) (q : Rule ℕ) → AllSafe s → ((l : List (Subgoal (Term ℕ))) × Rewrites s q l) ↔ Mapping q (expansion s (rewriting q (allRows s q)))
 all-rows-decide s q safe = (
@@ -107,6 +115,6 @@ all-rows-decide s q safe = (
 pub any-decided : (s : Summaries) (q : Rule ℕ) → AllSafe s → Dec ((l : List (Subgoal (Term ℕ))) × Rewrites s q l)
 any-decided s q safe = Dec·of-iff (Iff·symm (all-rows-decide s q safe)) (decMapping eqNumber (eqOwn eqNumber) q (expansion s (rewriting q (allRows s q))))
 
--- A list that works has only rows of the list of all rows.
-pub within-all-rows : (s : Summaries) (q : Rule ℕ) → AllSafe s → (l : List (Subgoal (Term ℕ))) → Rewrites s q l → (g : Subgoal (Term ℕ)) → g ∈ l → g ∈ allRows s q
-within-all-rows s q safe l w g m = allRows-complete s q safe g (w .rows g m)
+-- A list that works is a sublist of the list of all rows.
+pub within-all-rows : (s : Summaries) (q : Rule ℕ) → AllSafe s → (l : List (Subgoal (Term ℕ))) → Rewrites s q l → l ∈ sublists (length l) (allRows s q)
+within-all-rows s q safe l w = is-sublist rowOrder (allRows s q) l (allRows-enumerate s q safe .rising) (ascending-rising l (w .ascending)) (λ g m. allRows-complete s q safe g (w .rows g m))

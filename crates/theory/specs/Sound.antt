@@ -25,7 +25,8 @@ pub record SoundBook (b : Book) : Type 0 where
   pub question-safe : Safe (b .question)
   pub summaries-sound : (m : Summary) → m ∈ b .summaries → SoundSummary (b .arities) (m .rule)
 
-abbrev ruleOf : ℕ → Summary → Option (Rule ℕ)
+-- The summary's rule, if it is admitted.
+abbrev pub ruleOf : ℕ → Summary → Option (Rule ℕ)
 ruleOf need m = ifTrue (admitted need (m .stamp) (m .rule)) (m .rule)
 
 -- Each admitted rule is that of one of the book's summaries.

@@ -5,7 +5,7 @@ use mathlib.Core.List.{List, [], _∷_, map, List·Memᴰ·head, List·Memᴰ·t
 use Prim.Native.Nat.{ℕ}
 use native.Mathlib.Omega.{arith}
 use borrow.Author.Tests.{ne-eqb, eq-eqb}
-use lib.ListN.{length}
+use lib.ListN.{length, length-map}
 use Rattle.words.specs.Words.{_∈_, Term, var, con, Subgoal, Rule, DistinctVariables, becomes}
 use Rattle.words.specs.Summaries.{Summaries, replaced, Over, OverAll}
 use Rattle.theory.specs.Expand.{Suits, SuitAll, terms-agree}
@@ -34,6 +34,10 @@ over-suits s distinct g over = record {
     holds = λ b m. tt;
   };
 }
+
+-- And what suits is as long as the head.
+pub suits-over : {X : Type 0} (s : Summaries) (g : Subgoal (Term X)) → Suits s g → Over s g
+suits-over s g suits = record { rule = suits .rule; admitted = suits .admitted; long = sym (ap length (suits .yields .gives)) ∙ length-map (suits .rule .head) (becomes con (suits .yields .value)) }
 
 pub over-suit-all : {X : Type 0} (s : Summaries) → DistinctHeads s → (r : Rule X) → OverAll s r → SuitAll s r
 over-suit-all s distinct r over g m = over-suits s distinct g (over g m)
