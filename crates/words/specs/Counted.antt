@@ -1,7 +1,7 @@
 -- Numbers one after the other, and the places of a list in their order.
-use mathlib.Core.Path.{_≡_, refl, sym, subst}
+use mathlib.Core.Path.{_≡_, refl, sym, ap, subst}
 use mathlib.Core.Logic.{_⊎_, inl, inr}
-use mathlib.Core.Option.{Option, some, none, Option·none-ne-some}
+use mathlib.Core.Option.{Option, some, none, Option·none-ne-some, Option·some-injective}
 use mathlib.Core.List.{List, [], _∷_, List·Memᴰ·head, List·Memᴰ·tail, List·Memᴰ·not-nil}
 use Prim.Native.Nat.{ℕ, zero, suc, _+_, _≤_, _<_}
 use native.Mathlib.Omega.{arith}
@@ -40,6 +40,20 @@ place-within [] n a e = absurd (Option·none-ne-some a e)
 place-within (b ∷ l) zero a e = absurd (Option·none-ne-some a e)
 place-within (b ∷ l) (suc zero) a e = (omega arith, omega arith)
 place-within (b ∷ l) (suc (suc n)) a e = let r = place-within l (suc n) a e in (omega arith, omega arith)
+
+-- each member has a place, and what has a place is a member
+pub place-of : {A : Type 0} {a : A} (l : List A) → a ∈ l → (n : ℕ) × (place l n ≡ some a)
+place-of l m = let w = from-one l m in (suc (w .0), w .1)
+  where
+    from-one : {A : Type 0} {a : A} (l : List A) → a ∈ l → (n : ℕ) × (place l (suc n) ≡ some a)
+    from-one (b ∷ l) (List·Memᴰ·head e) = (zero, ap some (sym e))
+    from-one (b ∷ l) (List·Memᴰ·tail i) = let w = from-one l i in (suc (w .0), w .1)
+
+pub place-in : {A : Type 0} {a : A} (l : List A) (n : ℕ) → place l n ≡ some a → a ∈ l
+place-in {a = a} [] n e = absurd (Option·none-ne-some a e)
+place-in {a = a} (b ∷ l) zero e = absurd (Option·none-ne-some a e)
+place-in {a = a} (b ∷ l) (suc zero) e = List·Memᴰ·head (sym (Option·some-injective b a e))
+place-in (b ∷ l) (suc (suc n)) e = List·Memᴰ·tail (place-in l (suc n) e)
 
 -- What each place of a list makes of the number and what stands there, in the order of the places.
 abbrev pub everyPlace : {A B : Type 0} → (ℕ → A → List B) → List A → List B

@@ -34,3 +34,8 @@ module _ {A : Type 0} {Ok : A → Type 0} {Before : A → A → Type 0} where
   pub enumerates-none : (l : List A) → Enumerates Ok Before l → (first l ≡ none) ↔ ((a : A) → Ok a → ⊥)
   enumerates-none [] n = (λ e a ok. List·Memᴰ·not-nil (n .complete a ok), λ h. refl)
   enumerates-none (b ∷ l) n = (λ e. absurd (Option·some-ne-none b e), λ h. absurd (h b (n .sound b (List·Memᴰ·head refl))))
+
+  -- where one has the property there is a first
+  pub enumerates-some : (l : List A) → Enumerates Ok Before l → (a : A) → Ok a → (b : A) × First Ok Before b
+  enumerates-some [] n a ok = absurd (List·Memᴰ·not-nil (n .complete a ok))
+  enumerates-some (b ∷ l) n a ok = (b, first-is (b ∷ l) n b refl)

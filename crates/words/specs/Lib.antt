@@ -25,3 +25,5 @@ pub mod Equivalents
 pub mod Rewritings
 pub mod Named
 pub mod Witness
+pub mod WitnessExists
+pub mod Admits

@@ -17,7 +17,7 @@ use Rattle.words.specs.Lists.{gather, gather-in, gather-out, passing, pa
 use Rattle.words.specs.Strict.{Strict, first-unique}
 use Rattle.words.specs.Orders.{rowOrder, shorterOrder}
 use Rattle.words.specs.Rising.{Rising, rising-gather, rising-by, rising-passing, ascending-rising, rising-ascending}
-use Rattle.words.specs.Enumerate.{Enumerates, enumerates-first, enumerates-none}
+use Rattle.words.specs.Enumerate.{Enumerates, enumerates-first, enumerates-some, enumerates-none}
 use Rattle.words.specs.Counted.{counted, counted-in, counted-rising}
 use Rattle.words.specs.Sublists.{sublists, Sublist, sublist, is-sublist, sublists-rising}
 use Rattle.words.specs.Equivalents.{equivalent, equivalent-sound, equivalent-complete}
@@ -85,6 +85,9 @@ module _ (s : Summaries) (q : Rule ℕ) where
 
     pub answer-is : (l : Rows) → (answer ≡ some l) ↔ Answer s q l
     answer-is = enumerates-first shorterOrder rewritings rewritings-enumerate
+
+    pub answer-exists : (l : Rows) → Rewrites s q l → (m : Rows) × Answer s q m
+    answer-exists = enumerates-some rewritings rewritings-enumerate
 
     pub answer-none : (answer ≡ none) ↔ ((l : Rows) → Rewrites s q l → ⊥)
     answer-none = enumerates-none rewritings rewritings-enumerate
