@@ -2,14 +2,16 @@
 use mathlib.Core.Path.{_≡_, refl, sym, ap, ap₂, _∙_, subst}
 use mathlib.Core.Logic.{_⊎_, inl, inr, _↔_}
 use mathlib.Core.Bool.{Bool, true, false}
-use mathlib.Core.Option.{Option, some, none}
+use mathlib.Core.Option.{some, none}
 use mathlib.Core.List.{List, [], _∷_, map}
 use Prim.Native.Nat.{ℕ}
-use Rattle.words.specs.Words.{_∈_, Term, Subgoal, Rule}
-use Rattle.words.specs.Summaries.{Summaries, summary, uses, expansion, rewriting}
+use Rattle.words.specs.Words.{Term, Subgoal, Rule}
+use Rattle.words.specs.Summaries.{Summaries, summary, rewriting}
 use Rattle.words.specs.Order.{First}
-use Rattle.words.specs.Answer.{Rewrites, Answer, AtPairs, Sends, There, Back, FirstThere, FirstBack}
-use Rattle.words.specs.Refresh.{admitted}
+use Rattle.words.specs.Answer.{Answer, AtPairs, Sends, There, Back, FirstThere, FirstBack}
+use lib.Dec.{T}
+use Rattle.words.specs.Refresh.{Admitted, admitted}
+use Rattle.words.specs.Admits.{test-admitted}
 use Rattle.words.specs.Book.{Summary, Book, ifTrue, admittedOf}
 use Rattle.theory.specs.Held.{OverAdmitted}
 use Rattle.theory.specs.Sound.{ruleOf}
@@ -55,7 +57,7 @@ pub books-same : (b c : Book) → b .question ≡ c .question → SameAdmitted (
 books-same b c question same = subst (SameAnswers (admittedOf b) (b .question) (admittedOf c)) question (same-answers (admittedOf b) (admittedOf c) same (b .question))
 
 abbrev pub LeftOut : ℕ → Summary → Type 0
-LeftOut need m = admitted need (m .stamp) (m .rule) ≡ false
+LeftOut need m = Admitted need (m .stamp) (m .rule) → ⊥
 
 -- "another sound definition or another stamp, so long as it stays left out": summary by summary the same, or left out in both.
 abbrev pub SameButLeftOut : ℕ → List Summary → List Summary → Type 0
@@ -64,9 +66,16 @@ SameButLeftOut need [] (n ∷ ns) = ⊥
 SameButLeftOut need (m ∷ ms) [] = ⊥
 SameButLeftOut need (m ∷ ms) (n ∷ ns) = ((m ≡ n) ⊎ (LeftOut need m × LeftOut need n)) × SameButLeftOut need ms ns
 
+left-out-none : (need : ℕ) (m : Summary) → LeftOut need m → ruleOf need m ≡ none
+left-out-none need m out = go (admitted need (m .stamp) (m .rule)) (λ t. out (test-admitted need (m .stamp) (m .rule) t))
+  where
+    go : (b : Bool) → (T b → ⊥) → ifTrue b (m .rule) ≡ none
+    go true h = absurd (h tt)
+    go false h = refl
+
 left-out-same : (need : ℕ) (m n : Summary) → (m ≡ n) ⊎ (LeftOut need m × LeftOut need n) → ruleOf need m ≡ ruleOf need n
 left-out-same need m n (inl e) = ap (ruleOf need) e
-left-out-same need m n (inr h) = ap (λ b. ifTrue b (m .rule)) (h .0) ∙ sym (ap (λ b. ifTrue b (n .rule)) (h .1))
+left-out-same need m n (inr h) = left-out-none need m (h .0) ∙ sym (left-out-none need n (h .1))
 
 pub left-out-admitted : (need : ℕ) (ms ns : List Summary) → SameButLeftOut need ms ns → map (ruleOf need) ms ≡ map (ruleOf need) ns
 left-out-admitted need [] [] h = refl

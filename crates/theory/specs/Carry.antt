@@ -3,7 +3,7 @@ use mathlib.Core.Path.{_≡_, refl, sym, ap, ap₂, _∙_, subst}
 use mathlib.Core.Logic.{_⊎_, inl, inr}
 use mathlib.Core.List.{List, [], _∷_, map, List·Memᴰ·head, List·Memᴰ·tail}
 use Prim.Native.Nat.{ℕ}
-use Rattle.words.specs.Words.{_∈_, Term, var, con, Subgoal, Rule, Facts, Listed, becomes, each, Yields, Mapping}
+use Rattle.words.specs.Words.{_∈_, Term, var, con, Subgoal, Rule, Facts, becomes, each, Yields, Mapping}
 
 -- The term stands in the rule: in its head or in a subgoal.
 abbrev pub Stands : {X : Type 0} → Term X → Rule X → Type 0

@@ -1,10 +1,9 @@
 -- Theorem 1: a mapping from q to r goes with containment of rows on all finite facts; mappings both ways with the same rows.
-use mathlib.Core.Path.{_≡_, refl}
 use mathlib.Core.Logic.{_↔_}
 use mathlib.Core.List.{List}
 use Prim.Native.Nat.{ℕ, _+_}
 use native.Mathlib.Omega.{arith}
-use Rattle.words.specs.Words.{Subgoal, Rule, Listed, AllFit, each, becomes, Yields, itself, Mapping}
+use Rattle.words.specs.Words.{Subgoal, Rule, Listed, AllFit, becomes, Yields, itself, Mapping}
 use Rattle.words.specs.Equal.{Eq}
 use Rattle.theory.specs.Carry.{contains}
 use Rattle.theory.specs.Fit.{fit-each}

@@ -1,11 +1,12 @@
 -- Theorem 4: a rule over the summaries with fewer subgoals than every equivalent list of rows differs from the question on facts that are named.
-use mathlib.Core.Path.{_≡_, refl, sym, ap, _∙_, subst}
-use mathlib.Core.Option.{Option, some, none}
-use mathlib.Core.List.{List, [], _∷_, map}
+use mathlib.Core.Path.{_≡_, subst}
+use mathlib.Core.Logic.{_↔_}
+use mathlib.Core.Option.{some, none}
+use mathlib.Core.List.{List, [], _∷_}
 use Prim.Native.Nat.{ℕ, zero, suc, _+_, _≤_, _<_}
 use native.Mathlib.Omega.{arith}
 use lib.ListN.{length}
-use Rattle.words.specs.Words.{_∈_, Term, con, Subgoal, Rule, Facts, Listed, AllFit, becomes, each, Yields, itself, Mapping}
+use Rattle.words.specs.Words.{Term, con, Subgoal, Rule, Facts, Listed, AllFit, becomes, each, Yields, itself, Mapping}
 use Rattle.words.specs.Summaries.{Summaries, summary, Yielded, SummaryRow, HoldJust, Own, expansion, rewriting}
 use Rattle.words.specs.Answer.{Rewrites, Answer}
 use Rattle.words.specs.Equal.{Eq, eqNumber, eqTerm, eqOwn}
@@ -13,11 +14,12 @@ use Rattle.words.specs.Decide.{decYields}
 use Rattle.words.specs.Sound.{AllSafe}
 use Rattle.words.specs.Rows.{allRows, allRows-sound, allRows-complete}
 use Rattle.theory.specs.Carry.{more, contains}
-use Rattle.theory.specs.Expand.{SuitAll, expansion-back}
-use Rattle.theory.specs.Held.{Every, yielded-carry, OverAdmitted, over-held}
+use Rattle.theory.specs.Expand.{expansion-back}
+use Rattle.theory.specs.Held.{yielded-carry, OverAdmitted, over-held}
 use Rattle.theory.specs.Fit.{FitEvery, fit-each, fit-expansion}
 use Rattle.theory.specs.Freeze.{Below, high, below-high, freeze, frozen, frozenRow, yields-frozen, melt, melt-constant, melt-fact, melted, converse}
 use Rattle.theory.specs.ListsOfRows.{row-suits, Image, image}
+use Rattle.theory.specs.Same.{equivalent-same, rewrites-suit}
 use Rattle.theory.specs.Normal.{put-in-order, answer-least}
 
 -- Just one of the two.
@@ -117,3 +119,11 @@ module _ {X : Type 0} (arities : List ℕ) (s : Summaries) (q : Rule ℕ) (p : R
       go : OnlyOne (Yields itself q (Listed (w .facts)) (w .row)) (Yields itself p (Yielded itself s (Listed (w .facts))) (w .row)) → OnlyOne (Yields itself q (Listed (w .facts)) (w .row)) (Yields itself p held (w .row))
       go (first y n) = first y (λ z. n (over-held s (Listed (w .facts)) held just p over (w .row) .0 z))
       go (second n y) = second n (over-held s (Listed (w .facts)) held just p over (w .row) .1 y)
+
+-- A rule as long as the answer need not differ: the answer does not.
+pub answer-differs-not : (arities : List ℕ) (s : Summaries) (q : Rule ℕ) (l : List (Subgoal (Term ℕ))) → Answer s q l → Differs arities s q (rewriting q l) → ⊥
+answer-differs-not arities s q l a w = go (w .differs) (equivalent-same itself s q (rewriting q l) (rewrites-suit (a .holds)) (a .holds .equivalent) (Listed (w .facts)) (w .row))
+  where
+    go : {P Q : Type 0} → OnlyOne P Q → Q ↔ P → ⊥
+    go (first p n) e = n (e .1 p)
+    go (second n y) e = n (e .0 y)

@@ -1,19 +1,19 @@
 -- A rule over the summaries and its expansion over the facts yield the same rows, over any values.
-use mathlib.Core.Path.{_≡_, refl, sym, ap, ap₂, _∙_, subst, fun-ext}
+use mathlib.Core.Path.{_≡_, refl, sym, ap, _∙_, subst, fun-ext}
 use mathlib.Core.Logic.{_⊎_, inl, inr}
 use mathlib.Core.Bool.{Bool, true, false, cond}
-use mathlib.Core.Option.{Option, some, none}
+use mathlib.Core.Option.{some}
 use mathlib.Core.List.{List, [], _∷_, map, List·Memᴰ·head, List·Memᴰ·tail, List·Memᴰ·not-nil, Memᴰ·map, Memᴰ·of-map}
-use Prim.Native.Nat.{ℕ, zero, suc, _+_}
+use Prim.Native.Nat.{ℕ, zero, suc}
 use native.Mathlib.Omega.{arith}
 use native.Mathlib.Nat.{add-zero}
 use borrow.Author.Tests.{eqb-true, eqb-false}
 use lib.Dec.{eqb}
-use Rattle.words.specs.Words.{_∈_, Term, var, con, Subgoal, Rule, Facts, Listed, becomes, each, Yields, Mapping}
-use Rattle.words.specs.Summaries.{place, Summaries, summary, orEmpty, definition, Yielded, Own, old, fresh, replaced, kept, inUse, inPlace, uses, joined, expansion}
+use Rattle.words.specs.Words.{_∈_, Term, var, con, Subgoal, Rule, Facts, becomes, each, Yields}
+use Rattle.words.specs.Summaries.{place, Summaries, summary, orEmpty, definition, Yielded, Own, old, fresh, replaced, kept, inUse, inPlace, expansion}
 use Rattle.words.specs.Lists.{map-same}
-use Rattle.theory.specs.Carry.{terms-after, subgoal-after, contains, identity}
-use Rattle.theory.specs.Places.{place-of, at-place, Used, used, in-use}
+use Rattle.theory.specs.Carry.{terms-after, subgoal-after}
+use Rattle.theory.specs.Places.{use-of, used, in-use}
 
 abbrev pub Anything : {A : Type 0} → Facts A
 Anything f = Unit {0}
@@ -108,7 +108,7 @@ pub expansion-back : {A X : Type 0} (k : ℕ → A) (s : Summaries) (d : Facts A
 expansion-back k s d r row suits y = record {
   value = λ x. y .value (old x);
   gives = sym (terms-after k kept (y .value) (r .head)) ∙ y .gives;
-  holds = λ g m. let w = place-of (r .body) m in
+  holds = λ g m. let w = use-of (r .body) m in
       use-back k s d (y .value) (w .0) g (suits g m) (λ c i. y .holds c (in-use s 0 (r .body) c record { by = w .0; of = g; at = w .1; inside = rw add-zero i }));
 }
 

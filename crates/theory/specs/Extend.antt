@@ -1,14 +1,14 @@
 -- More admitted summaries: rows and rewritings of the fewer stay, and the answer has no more subgoals.
 use mathlib.Core.Path.{_≡_, refl, sym, ap, ap₂, _∙_, subst}
-use mathlib.Core.Logic.{_⊎_, inl, inr, _↔_}
-use mathlib.Core.Option.{Option, some, none}
+use mathlib.Core.Logic.{_⊎_, inl, inr}
+use mathlib.Core.Option.{some, none}
 use mathlib.Core.List.{List, [], _∷_, _++_, map, List·Memᴰ·head, List·Memᴰ·tail}
-use Prim.Native.Nat.{ℕ, zero, suc, _≤_, _<_}
+use Prim.Native.Nat.{ℕ, zero, suc, _≤_}
 use native.Mathlib.Omega.{arith}
 use lib.ListN.{length}
 use Rattle.words.specs.Words.{_∈_, Term, var, con, Subgoal, Rule, Facts, becomes, each, Mapping}
-use Rattle.words.specs.Summaries.{place, Summaries, orNone, summary, orEmpty, definition, Yielded, Own, kept, inUse, replaced, fresh, inPlace, uses, joined, expansion, Equivalent, rewriting}
-use Rattle.words.specs.Order.{ShorterFirst, First}
+use Rattle.words.specs.Summaries.{Summaries, summary, orEmpty, definition, Yielded, kept, replaced, fresh, uses, joined, expansion, rewriting}
+use Rattle.words.specs.Order.{ShorterFirst}
 use Rattle.words.specs.Answer.{Rewrites, Answer}
 use Rattle.theory.specs.Held.{OverAdmitted}
 

@@ -1,12 +1,12 @@
 -- Facts and subgoals as long as their relations' arities.
-use mathlib.Core.Path.{_≡_, refl, sym, ap, _∙_, subst}
+use mathlib.Core.Path.{_≡_, refl, _∙_, subst}
 use mathlib.Core.Option.{Option, some, none}
-use mathlib.Core.List.{List, [], _∷_, map, List·Memᴰ·not-nil, Memᴰ·of-map}
+use mathlib.Core.List.{List, map, List·Memᴰ·not-nil, Memᴰ·of-map}
 use Prim.Native.Nat.{ℕ}
-use lib.ListN.{length, length-map}
-use Rattle.words.specs.Words.{_∈_, Term, con, Subgoal, Rule, Fits, AllFit, becomes, each}
-use Rattle.words.specs.Summaries.{Summaries, summary, orEmpty, definition, Own, inUse, expansion}
-use Rattle.theory.specs.Places.{Used, used}
+use lib.ListN.{length-map}
+use Rattle.words.specs.Words.{con, Subgoal, Rule, Fits, AllFit, becomes, each}
+use Rattle.words.specs.Summaries.{Summaries, summary, orEmpty, definition, inUse, expansion}
+use Rattle.theory.specs.Places.{used}
 use Rattle.theory.specs.Held.{Every}
 
 pub fit-each : {A B : Type 0} (arities : List ℕ) (f : A → B) (l : List (Subgoal A)) → AllFit arities l → AllFit arities (map (each f) l)

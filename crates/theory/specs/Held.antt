@@ -1,8 +1,8 @@
 -- What the admitted summaries yield or hold: carried to other values, and rules over it.
-use mathlib.Core.Path.{_≡_, refl, sym, ap, _∙_, subst}
+use mathlib.Core.Path.{_≡_, subst}
 use mathlib.Core.Logic.{_↔_}
 use mathlib.Core.Option.{some}
-use mathlib.Core.List.{List, map}
+use mathlib.Core.List.{List}
 use Prim.Native.Nat.{ℕ}
 use Rattle.words.specs.Words.{_∈_, Term, con, Subgoal, Rule, Facts, becomes, each, Yields, itself}
 use Rattle.words.specs.Summaries.{Summaries, summary, Yielded, HoldJust}

@@ -9,7 +9,6 @@ pub mod Contain
 pub mod ListsOfRows
 pub mod Part
 pub mod Same
-pub mod Back
 pub mod Normal
 pub mod Differ
 pub mod Sound

@@ -1,10 +1,12 @@
 -- Theorem 2, first part: summary rows have their mapping back; more rows never lose the mapping there; a rewriting that maps back has rows for its image.
-use mathlib.Core.Path.{_≡_, refl, sym, ap, _∙_, subst}
+use mathlib.Core.Path.{_≡_, sym, subst}
 use mathlib.Core.List.{List, map, Memᴰ·cast, Memᴰ·map, Memᴰ·of-map}
 use Prim.Native.Nat.{ℕ}
 use lib.ListN.{length, length-map}
 use Rattle.words.specs.Words.{_∈_, Term, var, con, Subgoal, Rule, Facts, Listed, becomes, each, Yields, Mapping}
 use Rattle.words.specs.Summaries.{Summaries, Yielded, SummaryRow, expansion, Equivalent, rewriting}
+use Rattle.words.specs.Answer.{FirstBack}
+use Rattle.words.specs.WitnessExists.{maps-back}
 use Rattle.theory.specs.Carry.{contains, identity, terms-same, subgoal-same}
 use Rattle.theory.specs.Expand.{Suits, SuitAll, expansion-back, expansion-forth}
 use Rattle.theory.specs.Held.{yielded-more}
@@ -31,6 +33,10 @@ rows-back s q l rows = expansion-forth con s (Listed (q .body)) (rewriting q l) 
   gives = terms-same (q .head);
   holds = λ g m. subst (SummaryRow s q) (sym (subgoal-same g)) (rows g m);
 }
+
+-- So there is a witness back, and a first one.
+pub rows-witness : (s : Summaries) (q : Rule ℕ) (l : List (Subgoal (Term ℕ))) → AllRows s q l → (bytes : List ℕ) × FirstBack s q (rewriting q l) bytes
+rows-witness s q l rows = maps-back s q (rewriting q l) (rows-back s q l rows)
 
 -- More rows keep the mapping there.
 pub there-more : (s : Summaries) (q : Rule ℕ) (l m : List (Subgoal (Term ℕ))) → ((g : Subgoal (Term ℕ)) → g ∈ l → g ∈ m) → AllRows s q m

@@ -1,14 +1,14 @@
 -- Theorem 2, last part: what is equivalent has an equivalent ascending list of summary rows, no longer; and the list of all rows decides.
-use mathlib.Core.Path.{_≡_, refl, sym, ap, _∙_, subst}
+use mathlib.Core.Path.{_≡_}
 use mathlib.Core.Logic.{_⊎_, inl, inr, _↔_, Dec·of-iff, Iff·symm}
 use mathlib.Core.Bool.{Bool, true, false, cond}
-use mathlib.Core.List.{List, [], _∷_, map}
-use Prim.Native.Nat.{ℕ, suc, _≤_, _<_}
+use mathlib.Core.List.{List, [], _∷_}
+use Prim.Native.Nat.{ℕ, suc, _≤_}
 use native.Mathlib.Omega.{arith}
 use lib.ListN.{length}
 use Rattle.words.specs.Words.{_∈_, Term, Subgoal, Rule, Mapping}
-use Rattle.words.specs.Summaries.{Summaries, SummaryRow, expansion, OverAll, Equivalent, rewriting}
-use Rattle.words.specs.Order.{RowBefore, ShorterFirst}
+use Rattle.words.specs.Summaries.{Summaries, expansion, OverAll, Equivalent, rewriting}
+use Rattle.words.specs.Order.{ShorterFirst}
 use Rattle.words.specs.Answer.{Rewrites, Answer}
 use Rattle.words.specs.Equal.{eqNumber, eqOwn}
 use Rattle.words.specs.Decide.{decMapping}
@@ -21,7 +21,7 @@ use Rattle.words.specs.Sound.{AllSafe}
 use Rattle.words.specs.Rows.{allRows, allRows-sound, allRows-complete, allRows-ascending, allRows-enumerate}
 use Rattle.theory.specs.Expand.{SuitAll}
 use Rattle.theory.specs.Suit.{DistinctHeads, suits-over, over-suit-all}
-use Rattle.theory.specs.ListsOfRows.{row-suits, AllRows, rows-back, there-more, Image, image-of}
+use Rattle.theory.specs.ListsOfRows.{row-suits, AllRows, rows-back, there-more, image-of}
 use Rattle.theory.specs.Part.{part, part-long, part-within, part-there}
 
 module _ {A : Type 0} {Before : A → A → Type 0} (o : Strict Before) where

@@ -1,19 +1,20 @@
 -- Theorem 2, second part: a list with the mapping there has a part with it, of as many rows as the question has subgoals.
 use mathlib.Core.Path.{_≡_, refl, sym, ap, _∙_, subst}
 use mathlib.Core.Bool.{Bool, true, false, cond}
-use mathlib.Core.Option.{Option, some, none}
+use mathlib.Core.Option.{some}
 use mathlib.Core.List.{List, [], _∷_, map, List·Memᴰ·head, List·Memᴰ·tail, Memᴰ·cast, Memᴰ·map, Memᴰ·of-map, List·Memᴰ·not-nil}
-use Prim.Native.Nat.{ℕ, zero, suc, _+_}
+use Prim.Native.Nat.{ℕ, suc, _+_}
 use native.Mathlib.Omega.{arith}
 use native.Mathlib.Nat.{zero-add, add-zero}
 use borrow.Author.Tests.{eqb-true, eqb-false}
 use lib.Dec.{eqb}
 use lib.ListN.{length, length-map}
-use Rattle.words.specs.Words.{_∈_, Term, var, con, Subgoal, Rule, Listed, becomes, each, Yields, Mapping}
-use Rattle.words.specs.Summaries.{place, Summaries, definition, Own, old, fresh, kept, inUse, inPlace, uses, joined, expansion, rewriting}
+use Rattle.words.specs.Words.{_∈_, Term, con, Subgoal, Rule, Listed, becomes, each, Yields, Mapping}
+use Rattle.words.specs.Summaries.{place, Summaries, definition, Own, kept, inUse, inPlace, uses, joined, expansion, rewriting}
+use Rattle.words.specs.Counted.{place-in}
 use Rattle.theory.specs.Carry.{terms-after, subgoal-after}
-use Rattle.theory.specs.Places.{at-place, Used, used, in-use}
-use Rattle.theory.specs.Expand.{Suits, SuitAll, head-becomes, use-forth, extended}
+use Rattle.theory.specs.Places.{used, in-use}
+use Rattle.theory.specs.Expand.{Suits, head-becomes, use-forth, extended}
 
 -- One choice for each member of a list, as many as the list is long.
 record Chosen {A B : Type 0} (P : A → B → Type 0) (l : List A) : Type 0 where
@@ -85,7 +86,7 @@ module _ (s : Summaries) (q : Rule ℕ) (l : List (Subgoal (Term ℕ))) (suits :
 
   pub part-within : (g : Subgoal (Term ℕ)) → g ∈ part → g ∈ l
   unfolding part
-  part-within g m = let w = Memᴰ·of-map (rowOf s l) (hit .list) m in Memᴰ·cast (sym (w .2)) (at-place l (w .0 .by) (w .0 .at))
+  part-within g m = let w = Memᴰ·of-map (rowOf s l) (hit .list) m in Memᴰ·cast (sym (w .2)) (place-in l (suc (w .0 .by)) (w .0 .at))
 
   ξ : Own ℕ → Term (Own ℕ)
   ξ = extended kept (owns s l 0 (hit .list))
@@ -107,6 +108,6 @@ module _ (s : Summaries) (q : Rule ℕ) (l : List (Subgoal (Term ℕ))) (suits :
           y : Yields con (definition s (h .of .relation)) (Listed (joined (uses s 0 (map (rowOf s l) (hit .list))))) (map (becomes con kept) (h .of .terms))
           y = record {
             value = inUse s (o .0) (h .of);
-            gives = head-becomes s (o .0) (h .of) (suits (h .of) (at-place l (h .by) (h .at)));
+            gives = head-becomes s (o .0) (h .of) (suits (h .of) (place-in l (suc (h .by)) (h .at)));
             holds = λ b j. in-use s 0 (map (rowOf s l) (hit .list)) _ record { by = o .0; of = h .of; at = o .1; inside = rw add-zero (Memᴰ·map (each (becomes con (inUse s (o .0) (h .of)))) j) };
           }

@@ -1,23 +1,18 @@
 -- Places of a list and the uses that an expansion joins.
-use mathlib.Core.Path.{_≡_, refl, sym, ap, _∙_, subst}
-use mathlib.Core.Logic.{_⊎_, inl, inr, ⊎-elim}
-use mathlib.Core.Option.{Option, some, none}
-use mathlib.Core.List.{List, [], _∷_, _++_, List·Memᴰ·head, List·Memᴰ·tail, List·Memᴰ·append-cases, List·Memᴰ·not-nil, Memᴰ·append-left, Memᴰ·append-right}
+use mathlib.Core.Path.{_≡_, refl, sym, ap, subst}
+use mathlib.Core.Logic.{⊎-elim}
+use mathlib.Core.Option.{some}
+use mathlib.Core.List.{List, [], _∷_, List·Memᴰ·head, List·Memᴰ·tail, List·Memᴰ·append-cases, List·Memᴰ·not-nil, Memᴰ·append-left, Memᴰ·append-right}
 use Prim.Native.Nat.{ℕ, zero, suc, _+_}
 use native.Mathlib.Omega.{arith}
 use native.Mathlib.Nat.{zero-add}
 use Rattle.words.specs.Words.{_∈_, Term, Subgoal}
 use Rattle.words.specs.Summaries.{place, Summaries, Own, inPlace, uses, joined}
 
--- Each member has a place, and what has a place is a member.
-pub place-of : {A : Type 0} {a : A} (l : List A) → a ∈ l → (j : ℕ) × (place l (suc j) ≡ some a)
-place-of (b ∷ l) (List·Memᴰ·head e) = (zero, ap some (sym e))
-place-of (b ∷ l) (List·Memᴰ·tail m) = let w = place-of l m in (suc (w .0), w .1)
-
-pub at-place : {A : Type 0} {a : A} (l : List A) (j : ℕ) → place l (suc j) ≡ some a → a ∈ l
-at-place [] j e = let z : _≡_ {A = ℕ} 0 1 = cc in absurd (omega arith)
-at-place {A} {a} (b ∷ l) zero e = let q : a ≡ b = cc in List·Memᴰ·head q
-at-place (b ∷ l) (suc j) e = List·Memᴰ·tail (at-place l j e)
+-- The place of a member, counted from 0 as uses are.
+pub use-of : {A : Type 0} {a : A} (l : List A) → a ∈ l → (j : ℕ) × (place l (suc j) ≡ some a)
+use-of (b ∷ l) (List·Memᴰ·head e) = (zero, ap some (sym e))
+use-of (b ∷ l) (List·Memᴰ·tail m) = let w = use-of l m in (suc (w .0), w .1)
 
 module _ {X : Type 0} (s : Summaries) where
   -- A subgoal of the expansion: of which use it is.

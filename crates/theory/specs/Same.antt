@@ -1,9 +1,8 @@
 -- Theorem 3: an equivalent rewriting over summaries that hold just what their definitions yield, and the question over the facts, yield the same rows.
-use mathlib.Core.Path.{_≡_, refl}
 use mathlib.Core.Logic.{_↔_, Iff·trans}
 use mathlib.Core.List.{List}
 use Prim.Native.Nat.{ℕ}
-use Rattle.words.specs.Words.{_∈_, Term, Subgoal, Rule, Facts, Listed, AllFit, Yields, itself}
+use Rattle.words.specs.Words.{Term, Subgoal, Rule, Facts, Listed, AllFit, Yields, itself}
 use Rattle.words.specs.Summaries.{Summaries, Yielded, HoldJust, expansion, Equivalent, rewriting}
 use Rattle.words.specs.Answer.{Rewrites}
 use Rattle.words.specs.Equal.{Eq, eqNumber, eqOwn}

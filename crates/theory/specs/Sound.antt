@@ -1,12 +1,12 @@
 -- What reading grants of a sound book, by refusals 6, 7 and 8.
-use mathlib.Core.Path.{_≡_, refl, sym, ap, _∙_, subst}
+use mathlib.Core.Path.{_≡_, refl, subst}
 use mathlib.Core.Bool.{Bool, true, false}
-use mathlib.Core.Option.{Option, some, none}
+use mathlib.Core.Option.{Option, some}
 use mathlib.Core.List.{List, [], _∷_, map, List·Memᴰ·head, List·Memᴰ·tail}
 use Prim.Native.Nat.{ℕ, zero, suc}
 use native.Mathlib.Omega.{arith}
 use Rattle.words.specs.Words.{_∈_, Rule, Safe, DistinctVariables, AllFit}
-use Rattle.words.specs.Summaries.{Summaries, summary}
+use Rattle.words.specs.Summaries.{summary}
 use Rattle.words.specs.Refresh.{admitted}
 use Rattle.words.specs.Book.{Summary, Book, ifTrue, admittedOf}
 use Rattle.words.specs.Sound.{AllSafe}

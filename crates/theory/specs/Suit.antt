@@ -1,12 +1,12 @@
 -- Which subgoals suit their summaries: over heads of distinct variables, all that are as long as the head.
 use mathlib.Core.Path.{_≡_, refl, sym, ap, ap₂, _∙_}
 use mathlib.Core.Bool.{cond}
-use mathlib.Core.List.{List, [], _∷_, map, List·Memᴰ·head, List·Memᴰ·tail}
+use mathlib.Core.List.{List, [], _∷_, map}
 use Prim.Native.Nat.{ℕ}
 use native.Mathlib.Omega.{arith}
 use borrow.Author.Tests.{ne-eqb, eq-eqb}
 use lib.ListN.{length, length-map}
-use Rattle.words.specs.Words.{_∈_, Term, var, con, Subgoal, Rule, DistinctVariables, becomes}
+use Rattle.words.specs.Words.{Term, var, con, Subgoal, Rule, DistinctVariables, becomes}
 use Rattle.words.specs.Summaries.{Summaries, replaced, Over, OverAll}
 use Rattle.theory.specs.Expand.{Suits, SuitAll, terms-agree}
 use Rattle.theory.specs.Held.{Every}
