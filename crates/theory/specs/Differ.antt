@@ -1,7 +1,7 @@
 -- Theorem 4: a rule over the summaries with fewer subgoals than every equivalent list of rows differs from the question on facts that are named.
 use mathlib.Core.Path.{_≡_, subst}
 use mathlib.Core.Logic.{_↔_}
-use mathlib.Core.Option.{some, none}
+use mathlib.Core.Option.{some, none, Option·none-ne-some, Option·some-injective}
 use mathlib.Core.List.{List, [], _∷_}
 use Prim.Native.Nat.{ℕ, zero, suc, _+_, _≤_, _<_}
 use native.Mathlib.Omega.{arith}
@@ -14,11 +14,12 @@ use Rattle.words.specs.Decide.{decYields}
 use Rattle.words.specs.Sound.{AllSafe}
 use Rattle.words.specs.Rows.{allRows, allRows-sound, allRows-complete}
 use Rattle.theory.specs.Carry.{more, contains}
+use Rattle.theory.specs.Suit.{row-suits}
 use Rattle.theory.specs.Expand.{expansion-back}
 use Rattle.theory.specs.Held.{yielded-carry, OverAdmitted, over-held}
 use Rattle.theory.specs.Fit.{FitEvery, fit-each, fit-expansion}
 use Rattle.theory.specs.Freeze.{Below, high, below-high, freeze, frozen, frozenRow, yields-frozen, melt, melt-constant, melt-fact, melted, converse}
-use Rattle.theory.specs.ListsOfRows.{row-suits, Image, image}
+use Rattle.theory.specs.ListsOfRows.{Image, image}
 use Rattle.theory.specs.Same.{equivalent-same, rewrites-suit}
 use Rattle.theory.specs.Normal.{put-in-order, answer-least}
 
@@ -41,11 +42,11 @@ highest (some r ∷ s) = high r + highest s
 
 below-highest : (s : Summaries) (n : ℕ) (r : Rule ℕ) → summary s n ≡ some r → high r ≤ highest s
 unfolding highest
-below-highest [] n r e = let z : _≡_ {A = ℕ} 0 1 = cc in absurd (omega arith)
-below-highest (none ∷ s) zero r e = let z : _≡_ {A = ℕ} 0 1 = cc in absurd (omega arith)
-below-highest (some a ∷ s) zero r e = let z : _≡_ {A = ℕ} 0 1 = cc in absurd (omega arith)
-below-highest (none ∷ s) (suc zero) r e = let z : _≡_ {A = ℕ} 0 1 = cc in absurd (omega arith)
-below-highest (some a ∷ s) (suc zero) r e = let z : a ≡ r = cc in subst (λ b. high b ≤ high a + highest s) z (omega arith)
+below-highest [] n r e = absurd (Option·none-ne-some r e)
+below-highest (none ∷ s) zero r e = absurd (Option·none-ne-some r e)
+below-highest (some a ∷ s) zero r e = absurd (Option·none-ne-some r e)
+below-highest (none ∷ s) (suc zero) r e = absurd (Option·none-ne-some r e)
+below-highest (some a ∷ s) (suc zero) r e = subst (λ b. high b ≤ high a + highest s) (Option·some-injective a r e) (omega arith)
 below-highest (none ∷ s) (suc (suc n)) r e = below-highest s (suc n) r e
 below-highest (some a ∷ s) (suc (suc n)) r e = omega (arith, below-highest s (suc n) r e)
 

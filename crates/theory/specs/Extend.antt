@@ -1,16 +1,14 @@
 -- More admitted summaries: rows and rewritings of the fewer stay, and the answer has no more subgoals.
 use mathlib.Core.Path.{_≡_, refl, sym, ap, ap₂, _∙_, subst}
-use mathlib.Core.Logic.{_⊎_, inl, inr}
-use mathlib.Core.Option.{some, none}
+use mathlib.Core.Option.{some, none, Option·none-ne-some}
 use mathlib.Core.List.{List, [], _∷_, _++_, map, List·Memᴰ·head, List·Memᴰ·tail}
 use Prim.Native.Nat.{ℕ, zero, suc, _≤_}
-use native.Mathlib.Omega.{arith}
 use lib.ListN.{length}
 use Rattle.words.specs.Words.{_∈_, Term, var, con, Subgoal, Rule, Facts, becomes, each, Mapping}
 use Rattle.words.specs.Summaries.{Summaries, summary, orEmpty, definition, Yielded, kept, replaced, fresh, uses, joined, expansion, rewriting}
-use Rattle.words.specs.Order.{ShorterFirst}
 use Rattle.words.specs.Answer.{Rewrites, Answer}
 use Rattle.theory.specs.Held.{OverAdmitted}
+use Rattle.theory.specs.Normal.{answer-least}
 
 -- Each summary admitted in s is admitted in t, under its number.
 abbrev pub Extends : Summaries → Summaries → Type 0
@@ -18,17 +16,17 @@ Extends s t = (n : ℕ) (r : Rule ℕ) → summary s n ≡ some r → summary t 
 
 -- "put any sound summary at the end"
 pub append-extends : (s t : Summaries) → Extends s (s ++ t)
-append-extends [] t n r e = let z : _≡_ {A = ℕ} 0 1 = cc in absurd (omega arith)
-append-extends (a ∷ s) t zero r e = let z : _≡_ {A = ℕ} 0 1 = cc in absurd (omega arith)
+append-extends [] t n r e = absurd (Option·none-ne-some r e)
+append-extends (a ∷ s) t zero r e = absurd (Option·none-ne-some r e)
 append-extends (a ∷ s) t (suc zero) r e = e
 append-extends (a ∷ s) t (suc (suc n)) r e = append-extends s t (suc n) r e
 
 -- A summary that is left out at the end is none.
 pub append-none : (s : Summaries) → Extends (s ++ (none ∷ [])) s
-append-none [] zero r e = let z : _≡_ {A = ℕ} 0 1 = cc in absurd (omega arith)
-append-none [] (suc zero) r e = let z : _≡_ {A = ℕ} 0 1 = cc in absurd (omega arith)
-append-none [] (suc (suc n)) r e = let z : _≡_ {A = ℕ} 0 1 = cc in absurd (omega arith)
-append-none (a ∷ s) zero r e = let z : _≡_ {A = ℕ} 0 1 = cc in absurd (omega arith)
+append-none [] zero r e = absurd (Option·none-ne-some r e)
+append-none [] (suc zero) r e = absurd (Option·none-ne-some r e)
+append-none [] (suc (suc n)) r e = absurd (Option·none-ne-some r e)
+append-none (a ∷ s) zero r e = absurd (Option·none-ne-some r e)
 append-none (a ∷ s) (suc zero) r e = e
 append-none (a ∷ s) (suc (suc n)) r e = append-none s (suc n) r e
 
@@ -61,9 +59,4 @@ module _ (s t : Summaries) (more : Extends s t) where
 
   -- The answer of more summaries has no more subgoals.
   pub extend-shorter : (q : Rule ℕ) (l m : List (Subgoal (Term ℕ))) → Answer s q l → Answer t q m → length m ≤ length l
-  extend-shorter q l m a b = go (b .least l (extend-rewrites q l (a .holds)))
-    where
-      go : (m ≡ l) ⊎ ShorterFirst m l → length m ≤ length l
-      go (inl e) = rw e (omega arith)
-      go (inr (inl h)) = omega arith
-      go (inr (inr h)) = omega arith
+  extend-shorter q l m a b = answer-least t q m l b (extend-rewrites q l (a .holds))

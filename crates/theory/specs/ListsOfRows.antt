@@ -3,13 +3,13 @@ use mathlib.Core.Path.{_≡_, sym, subst}
 use mathlib.Core.List.{List, map, Memᴰ·cast, Memᴰ·map, Memᴰ·of-map}
 use Prim.Native.Nat.{ℕ}
 use lib.ListN.{length, length-map}
-use Rattle.words.specs.Words.{_∈_, Term, var, con, Subgoal, Rule, Facts, Listed, becomes, each, Yields, Mapping}
+use Rattle.words.specs.Words.{_∈_, Term, var, con, Subgoal, Rule, Listed, becomes, each, Yields, Mapping}
 use Rattle.words.specs.Summaries.{Summaries, Yielded, SummaryRow, expansion, Equivalent, rewriting}
 use Rattle.words.specs.Answer.{FirstBack}
 use Rattle.words.specs.WitnessExists.{maps-back}
 use Rattle.theory.specs.Carry.{contains, identity, terms-same, subgoal-same}
-use Rattle.theory.specs.Expand.{Suits, SuitAll, expansion-back, expansion-forth}
-use Rattle.theory.specs.Held.{yielded-more}
+use Rattle.theory.specs.Expand.{expansion-back, expansion-forth}
+use Rattle.theory.specs.Suit.{SuitAll, row-suits}
 
 -- Each use of a rule's own expansion: the rule over what the summaries yield on its expansion's body.
 pub own-yields : {X : Type 0} (s : Summaries) (r : Rule X) → SuitAll s r → Yields con r (Yielded con s (Listed (expansion s r .body))) (expansion s r .head)
@@ -18,9 +18,6 @@ own-yields s r suits = expansion-back con s (Listed (expansion s r .body)) r (ex
 -- A mapping between rules over summaries lifts to their expansions.
 pub lift : {X Y : Type 0} (s : Summaries) (p : Rule X) (r : Rule Y) → SuitAll s r → Mapping p r → Mapping (expansion s p) (expansion s r)
 lift s p r suits m = expansion-forth con s (Listed (expansion s r .body)) p (expansion s r .head) (contains m (own-yields s r suits))
-
-pub row-suits : {X : Type 0} {s : Summaries} {d : Facts (Term X)} (g : Subgoal (Term X)) → Yielded con s d g → Suits s g
-row-suits g y = yielded-more (λ f m. tt) g y
 
 -- Each of the list is a summary row.
 abbrev pub AllRows : Summaries → Rule ℕ → List (Subgoal (Term ℕ)) → Type 0

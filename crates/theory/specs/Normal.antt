@@ -19,10 +19,9 @@ use Rattle.words.specs.Sublists.{sublists, is-sublist}
 use Rattle.words.specs.Sorted.{insert, sorted, sorted-in, sorted-out, sorted-rising}
 use Rattle.words.specs.Sound.{AllSafe}
 use Rattle.words.specs.Rows.{allRows, allRows-sound, allRows-complete, allRows-ascending, allRows-enumerate}
-use Rattle.theory.specs.Expand.{SuitAll}
-use Rattle.theory.specs.Suit.{DistinctHeads, suits-over, over-suit-all}
-use Rattle.theory.specs.ListsOfRows.{row-suits, AllRows, rows-back, there-more, image-of}
-use Rattle.theory.specs.Part.{part, part-long, part-within, part-there}
+use Rattle.theory.specs.Suit.{SuitAll, row-suits, DistinctHeads, suits-over, over-suit-all}
+use Rattle.theory.specs.ListsOfRows.{AllRows, rows-back, there-more, image-of}
+use Rattle.theory.specs.Part.{part}
 
 module _ {A : Type 0} {Before : A → A → Type 0} (o : Strict Before) where
   insert-few : (a : A) (l : List A) → length (insert o a l) ≤ suc (length l)
@@ -54,7 +53,11 @@ pub put-in-order : (s : Summaries) (q : Rule ℕ) (l : List (Subgoal (Term ℕ))
 put-in-order s q l rows there = record {
   ordered = record {
     list = sorted rowOrder l;
-    rewrites = record { rows = rows′; ascending = rising-ascending (sorted rowOrder l) (sorted-rising rowOrder l); equivalent = record { there = there-more s q l (sorted rowOrder l) (sorted-in rowOrder l) rows′ there; back = rows-back s q (sorted rowOrder l) rows′ } };
+    rewrites = record {
+      rows = rows′;
+      ascending = rising-ascending (sorted rowOrder l) (sorted-rising rowOrder l);
+      equivalent = record { there = there-more s q l (sorted rowOrder l) (sorted-in rowOrder l) rows′ there; back = rows-back s q (sorted rowOrder l) rows′ };
+    };
     few = sorted-few rowOrder l;
   };
   within = sorted-out rowOrder l;
@@ -66,13 +69,11 @@ put-in-order s q l rows there = record {
 -- "It has at most as many subgoals as the question": an equivalent list contains such a one.
 pub shorten : (s : Summaries) (q : Rule ℕ) (l : List (Subgoal (Term ℕ))) → Rewrites s q l → OrderedIn s q l (length (q .body))
 shorten s q l w =
-    let suits : SuitAll s (rewriting q l) = λ g m. row-suits g (w .rows g m) in
-    let there = w .equivalent .there in
-    let within = part-within s q l suits there in
-    let o = put-in-order s q (part s q l suits there) (λ g m. w .rows g (within g m)) (part-there s q l suits there) in
+    let p = part s q l (λ g m. row-suits g (w .rows g m)) (w .equivalent .there) in
+    let o = put-in-order s q (p .list) (λ g m. w .rows g (p .within g m)) (p .there) in
     record {
-      ordered = record { list = o .ordered .list; rewrites = o .ordered .rewrites; few = omega (arith, o .ordered .few, part-long s q l suits there) };
-      within = λ g m. within g (o .within g m);
+      ordered = record { list = o .ordered .list; rewrites = o .ordered .rewrites; few = omega (arith, o .ordered .few, p .long) };
+      within = λ g m. p .within g (o .within g m);
     }
 
 -- The answer has no more rows than any other equivalent list.

@@ -14,7 +14,8 @@ use Rattle.words.specs.Summaries.{place, Summaries, definition, Own, kept, inUs
 use Rattle.words.specs.Counted.{place-in}
 use Rattle.theory.specs.Carry.{terms-after, subgoal-after}
 use Rattle.theory.specs.Places.{used, in-use}
-use Rattle.theory.specs.Expand.{Suits, head-becomes, use-forth, extended}
+use Rattle.theory.specs.Suit.{Suits, head-becomes}
+use Rattle.theory.specs.Expand.{use-forth, extended}
 
 -- One choice for each member of a list, as many as the list is long.
 record Chosen {A B : Type 0} (P : A → B → Type 0) (l : List A) : Type 0 where
@@ -66,6 +67,13 @@ module _ (s : Summaries) (l : List (Subgoal (Term ℕ))) where
       go false e (List·Memᴰ·head p) ih = absurd (eqb-false (b .by) (h .by) e (ap (λ z. z .by) (sym p)))
       go false e (List·Memᴰ·tail m) ih = let w = ih m in (suc (w .0), w .1, λ x. let n : w .0 + suc i ≡ suc (w .0) + i = omega arith in w .2 x ∙ ap (λ z. inUse s z (h .of) x) n)
 
+-- Of the list's rows some, as many as the question has subgoals, with the mapping there.
+pub record Part (s : Summaries) (q : Rule ℕ) (l : List (Subgoal (Term ℕ))) : Type 0 where
+  pub list : List (Subgoal (Term ℕ))
+  pub long : length list ≡ length (q .body)
+  pub within : (g : Subgoal (Term ℕ)) → g ∈ list → g ∈ l
+  pub there : Mapping q (expansion s (rewriting q list))
+
 -- The rows that the question's subgoals land in.
 module _ (s : Summaries) (q : Rule ℕ) (l : List (Subgoal (Term ℕ))) (suits : (g : Subgoal (Term ℕ)) → g ∈ l → Suits s g) (there : Mapping q (expansion s (rewriting q l))) where
   abbrev Lands : Subgoal (Term ℕ) → Row s l → Type 0
@@ -77,37 +85,34 @@ module _ (s : Summaries) (q : Rule ℕ) (l : List (Subgoal (Term ℕ))) (suits :
   abbrev hit : Chosen Lands (q .body)
   hit = chosen Lands (q .body) lands
 
-  pub part : List (Subgoal (Term ℕ))
-  part = map (rowOf s l) (hit .list)
+  abbrev rows : List (Subgoal (Term ℕ))
+  rows = map (rowOf s l) (hit .list)
 
-  pub part-long : length part ≡ length (q .body)
-  unfolding part
-  part-long = length-map (hit .list) (rowOf s l) ∙ hit .long
-
-  pub part-within : (g : Subgoal (Term ℕ)) → g ∈ part → g ∈ l
-  unfolding part
-  part-within g m = let w = Memᴰ·of-map (rowOf s l) (hit .list) m in Memᴰ·cast (sym (w .2)) (place-in l (suc (w .0 .by)) (w .0 .at))
-
-  ξ : Own ℕ → Term (Own ℕ)
+  abbrev ξ : Own ℕ → Term (Own ℕ)
   ξ = extended kept (owns s l 0 (hit .list))
 
-  pub part-there : Mapping q (expansion s (rewriting q part))
-  unfolding part ξ
-  part-there = record {
-    value = λ x. becomes con ξ (there .value x);
-    gives = sym (terms-after con (there .value) ξ (q .head)) ∙ ap (map (becomes con ξ)) (there .gives) ∙ terms-after con kept ξ (q .head);
-    holds = λ g m. let w = hit .serves g m in Memᴰ·cast (sym (subgoal-after con (there .value) ξ g)) (kept-in (w .0) (w .1) (each (becomes con (there .value)) g) (w .2));
-  }
+  -- A hit row's use in the whole becomes its use in the part.
+  moved : (h : Row s l) → h ∈ hit .list → (c : Subgoal (Term (Own ℕ))) → c ∈ inPlace s (h .by) (h .of) → each (becomes con ξ) c ∈ joined (uses s 0 rows)
+  moved h m c i = use-forth con s (Listed (joined (uses s 0 rows))) ξ (h .by) (h .of) y (λ x. o .2 x ∙ ap (λ n. inUse s n (h .of) x) (add-zero (o .0))) c i
     where
-      kept-in : (h : Row s l) → h ∈ hit .list → (c : Subgoal (Term (Own ℕ))) → c ∈ inPlace s (h .by) (h .of) → each (becomes con ξ) c ∈ joined (uses s 0 (map (rowOf s l) (hit .list)))
-      kept-in h m c i = use-forth con s (Listed (joined (uses s 0 (map (rowOf s l) (hit .list))))) ξ (h .by) (h .of) y (λ x. o .2 x ∙ ap (λ n. inUse s n (h .of) x) (add-zero (o .0))) c i
-        where
-          o : Owned s l 0 (hit .list) h
-          o = owned s l 0 (hit .list) h m
+      o : Owned s l 0 (hit .list) h
+      o = owned s l 0 (hit .list) h m
 
-          y : Yields con (definition s (h .of .relation)) (Listed (joined (uses s 0 (map (rowOf s l) (hit .list))))) (map (becomes con kept) (h .of .terms))
-          y = record {
-            value = inUse s (o .0) (h .of);
-            gives = head-becomes s (o .0) (h .of) (suits (h .of) (place-in l (suc (h .by)) (h .at)));
-            holds = λ b j. in-use s 0 (map (rowOf s l) (hit .list)) _ record { by = o .0; of = h .of; at = o .1; inside = rw add-zero (Memᴰ·map (each (becomes con (inUse s (o .0) (h .of)))) j) };
-          }
+      y : Yields con (definition s (h .of .relation)) (Listed (joined (uses s 0 rows))) (map (becomes con kept) (h .of .terms))
+      y = record {
+        value = inUse s (o .0) (h .of);
+        gives = head-becomes s (o .0) (h .of) (suits (h .of) (place-in l (suc (h .by)) (h .at)));
+        holds = λ b j. in-use s 0 rows _ record { by = o .0; of = h .of; at = o .1; inside = rw add-zero (Memᴰ·map (each (becomes con (inUse s (o .0) (h .of)))) j) };
+      }
+
+  pub part : Part s q l
+  part = record {
+    list = rows;
+    long = length-map (hit .list) (rowOf s l) ∙ hit .long;
+    within = λ g m. let w = Memᴰ·of-map (rowOf s l) (hit .list) m in Memᴰ·cast (sym (w .2)) (place-in l (suc (w .0 .by)) (w .0 .at));
+    there = record {
+      value = λ x. becomes con ξ (there .value x);
+      gives = sym (terms-after con (there .value) ξ (q .head)) ∙ ap (map (becomes con ξ)) (there .gives) ∙ terms-after con kept ξ (q .head);
+      holds = λ g m. let w = hit .serves g m in Memᴰ·cast (sym (subgoal-after con (there .value) ξ g)) (moved (w .0) (w .1) (each (becomes con (there .value)) g) (w .2));
+    };
+  }

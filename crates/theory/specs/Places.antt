@@ -1,7 +1,7 @@
 -- Places of a list and the uses that an expansion joins.
 use mathlib.Core.Path.{_≡_, refl, sym, ap, subst}
 use mathlib.Core.Logic.{⊎-elim}
-use mathlib.Core.Option.{some}
+use mathlib.Core.Option.{some, Option·none-ne-some, Option·some-injective}
 use mathlib.Core.List.{List, [], _∷_, List·Memᴰ·head, List·Memᴰ·tail, List·Memᴰ·append-cases, List·Memᴰ·not-nil, Memᴰ·append-left, Memᴰ·append-right}
 use Prim.Native.Nat.{ℕ, zero, suc, _+_}
 use native.Mathlib.Omega.{arith}
@@ -36,6 +36,6 @@ module _ {X : Type 0} (s : Summaries) where
   in-use u gs c w = go u gs (w .by) (w .at) (w .inside)
     where
       go : (u : ℕ) (gs : List (Subgoal (Term X))) (j : ℕ) → place gs (suc j) ≡ some (w .of) → c ∈ inPlace s (j + u) (w .of) → c ∈ joined (uses s u gs)
-      go u [] j at i = let z : _≡_ {A = ℕ} 0 1 = cc in absurd (omega arith)
-      go u (g ∷ gs) zero at i = let e : w .of ≡ g = cc in Memᴰ·append-left (joined (uses s (suc u) gs)) (subst (λ z. c ∈ inPlace s u z) e (rw zero-add at i))
+      go u [] j at i = absurd (Option·none-ne-some (w .of) at)
+      go u (g ∷ gs) zero at i = let e = sym (Option·some-injective g (w .of) at) in Memᴰ·append-left (joined (uses s (suc u) gs)) (subst (λ z. c ∈ inPlace s u z) e (rw zero-add at i))
       go u (g ∷ gs) (suc j) at i = let e : suc j + u ≡ j + suc u = omega arith in Memᴰ·append-right (inPlace s u g) (go (suc u) gs j at (subst (λ n. c ∈ inPlace s n (w .of)) e i))

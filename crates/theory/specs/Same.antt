@@ -7,11 +7,11 @@ use Rattle.words.specs.Summaries.{Summaries, Yielded, HoldJust, expansion, Equi
 use Rattle.words.specs.Answer.{Rewrites}
 use Rattle.words.specs.Equal.{Eq, eqNumber, eqOwn}
 use Rattle.theory.specs.Carry.{contains}
-use Rattle.theory.specs.Expand.{SuitAll, expansion-back, expansion-forth}
+use Rattle.theory.specs.Expand.{expansion-back, expansion-forth}
 use Rattle.theory.specs.Held.{OverAdmitted, over-held}
 use Rattle.theory.specs.Fit.{FitEvery, fit-expansion}
 use Rattle.theory.specs.Contain.{mappings-same}
-use Rattle.theory.specs.ListsOfRows.{row-suits}
+use Rattle.theory.specs.Suit.{SuitAll, row-suits}
 
 pub suit-admitted : {X : Type 0} (s : Summaries) (r : Rule X) → SuitAll s r → OverAdmitted s r
 suit-admitted s r suits g m = (suits g m .rule, suits g m .admitted)

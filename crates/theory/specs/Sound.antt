@@ -1,10 +1,9 @@
 -- What reading grants of a sound book, by refusals 6, 7 and 8.
 use mathlib.Core.Path.{_≡_, refl, subst}
 use mathlib.Core.Bool.{Bool, true, false}
-use mathlib.Core.Option.{Option, some}
+use mathlib.Core.Option.{Option, some, Option·none-ne-some, Option·some-injective}
 use mathlib.Core.List.{List, [], _∷_, map, List·Memᴰ·head, List·Memᴰ·tail}
 use Prim.Native.Nat.{ℕ, zero, suc}
-use native.Mathlib.Omega.{arith}
 use Rattle.words.specs.Words.{_∈_, Rule, Safe, DistinctVariables, AllFit}
 use Rattle.words.specs.Summaries.{summary}
 use Rattle.words.specs.Refresh.{admitted}
@@ -31,13 +30,13 @@ ruleOf need m = ifTrue (admitted need (m .stamp) (m .rule)) (m .rule)
 
 -- Each admitted rule is that of one of the book's summaries.
 from-summaries : (need : ℕ) (ms : List Summary) (n : ℕ) (r : Rule ℕ) → summary (map (ruleOf need) ms) n ≡ some r → (m : Summary) × (m ∈ ms) × (m .rule ≡ r)
-from-summaries need [] n r e = let z : _≡_ {A = ℕ} 0 1 = cc in absurd (omega arith)
-from-summaries need (m ∷ ms) zero r e = let z : _≡_ {A = ℕ} 0 1 = cc in absurd (omega arith)
+from-summaries need [] n r e = absurd (Option·none-ne-some r e)
+from-summaries need (m ∷ ms) zero r e = absurd (Option·none-ne-some r e)
 from-summaries need (m ∷ ms) (suc zero) r e = (m, List·Memᴰ·head refl, go (admitted need (m .stamp) (m .rule)) e)
   where
     go : (t : Bool) → ifTrue t (m .rule) ≡ some r → m .rule ≡ r
-    go true p = cc
-    go false p = cc
+    go true p = Option·some-injective (m .rule) r p
+    go false p = absurd (Option·none-ne-some r p)
 from-summaries need (m ∷ ms) (suc (suc n)) r e = let w = from-summaries need ms (suc n) r e in (w .0, List·Memᴰ·tail (w .1), w .2)
 
 sound-admitted : (b : Book) → SoundBook b → Every (admittedOf b) (SoundSummary (b .arities))
