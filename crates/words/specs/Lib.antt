@@ -27,3 +27,6 @@ pub mod Named
 pub mod Witness
 pub mod WitnessExists
 pub mod Admits
+pub mod Safety
+pub mod Answered
+pub mod Sheets
