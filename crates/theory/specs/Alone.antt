@@ -5,11 +5,12 @@ use mathlib.Core.Bool.{Bool, true, false}
 use mathlib.Core.Option.{some, none}
 use mathlib.Core.List.{List, [], _∷_, map}
 use Prim.Native.Nat.{ℕ}
+use lib.Dec.{T}
 use Rattle.words.specs.Words.{Term, Subgoal, Rule}
 use Rattle.words.specs.Summaries.{Summaries, summary, rewriting}
 use Rattle.words.specs.Order.{First}
-use Rattle.words.specs.Answer.{Answer, AtPairs, Sends, There, Back, FirstThere, FirstBack}
-use lib.Dec.{T}
+use Rattle.words.specs.Answer.{Answer, AtPairs, Sends, There, Back}
+use Rattle.words.specs.Answered.{Answered, Right}
 use Rattle.words.specs.Refresh.{Admitted, admitted}
 use Rattle.words.specs.Admits.{test-admitted}
 use Rattle.words.specs.Book.{Summary, Book, ifTrue, admittedOf}
@@ -20,12 +21,6 @@ use Rattle.theory.specs.Extend.{Extends, extend-uses, extend-expansion, 
 -- The same summaries are admitted, under the same numbers.
 abbrev pub SameAdmitted : Summaries → Summaries → Type 0
 SameAdmitted s t = Extends s t × Extends t s
-
--- The same answers, and for an answer the same witness, first byte by byte.
-pub record SameAnswers (s : Summaries) (q : Rule ℕ) (t : Summaries) (p : Rule ℕ) : Type 0 where
-  pub answers : (l : List (Subgoal (Term ℕ))) → Answer s q l ↔ Answer t p l
-  pub theres : (l : List (Subgoal (Term ℕ))) → Answer s q l → (bytes : List ℕ) → FirstThere s q (rewriting q l) bytes ↔ FirstThere t p (rewriting p l) bytes
-  pub backs : (l : List (Subgoal (Term ℕ))) → Answer s q l → (bytes : List ℕ) → FirstBack s q (rewriting q l) bytes ↔ FirstBack t p (rewriting p l) bytes
 
 first-same : {A : Type 0} {P Q : A → Type 0} {Before : A → A → Type 0} → ((a : A) → P a ↔ Q a) → (a : A) → First P Before a ↔ First Q Before a
 first-same same a = (
@@ -39,22 +34,32 @@ there-extends s t more q r over bytes w = record { targets = w .targets; named =
 back-extends : (s t : Summaries) → Extends s t → (q r : Rule ℕ) → OverAdmitted s r → (bytes : List ℕ) → Back s q r bytes → Back t q r bytes
 back-extends s t more q r over bytes w = record { targets = w .targets; named = w .named; mapping = subst (λ z. Sends z (q .head) (w .targets)) (extend-expansion s t more r over) (w .mapping) }
 
-pub same-answers : (s t : Summaries) → SameAdmitted s t → (q : Rule ℕ) → SameAnswers s q t q
-same-answers s t same q = record {
-  answers = first-same (λ l. (extend-rewrites s t (same .0) q l, extend-rewrites t s (same .1) q l));
-  theres = λ l a. first-same (λ bytes. (there-extends s t (same .0) q (rewriting q l) (over l a) bytes, there-extends t s (same .1) q (rewriting q l) (over′ l a) bytes));
-  backs = λ l a. first-same (λ bytes. (back-extends s t (same .0) q (rewriting q l) (over l a) bytes, back-extends t s (same .1) q (rewriting q l) (over′ l a) bytes));
+pub same-answer : (s t : Summaries) → SameAdmitted s t → (q : Rule ℕ) (l : List (Subgoal (Term ℕ))) → Answer s q l ↔ Answer t q l
+same-answer s t same q l = first-same (λ m. (extend-rewrites s t (same .0) q m, extend-rewrites t s (same .1) q m)) l
+
+-- The answer and the two parts of its witness, first byte by byte.
+right-extends : (s t : Summaries) → SameAdmitted s t → (q : Rule ℕ) (a : Answered) → Right s q a → Right t q a
+right-extends s t same q a w = record {
+  answers = same-answer s t same q (a .rows) .0 (w .answers);
+  goes = first-same (λ bytes. (there-extends s t (same .0) q r over bytes, there-extends t s (same .1) q r over′ bytes)) (a .there) .0 (w .goes);
+  returns = first-same (λ bytes. (back-extends s t (same .0) q r over bytes, back-extends t s (same .1) q r over′ bytes)) (a .back) .0 (w .returns);
 }
   where
-    over : (l : List (Subgoal (Term ℕ))) → Answer s q l → OverAdmitted s (rewriting q l)
-    over l a g m = let w = a .holds .rows g m in (w .rule, w .admitted)
+    r : Rule ℕ
+    r = rewriting q (a .rows)
 
-    over′ : (l : List (Subgoal (Term ℕ))) → Answer s q l → OverAdmitted t (rewriting q l)
-    over′ l a g m = let w = over l a g m in (w .0, same .0 (g .relation) (w .0) (w .1))
+    over : OverAdmitted s r
+    over g m = let y = w .answers .holds .rows g m in (y .rule, y .admitted)
+
+    over′ : OverAdmitted t r
+    over′ g m = let y = over g m in (y .0, same .0 (g .relation) (y .0) (y .1))
+
+pub same-right : (s t : Summaries) → SameAdmitted s t → (q : Rule ℕ) (a : Answered) → Right s q a ↔ Right t q a
+same-right s t same q a = (right-extends s t same q a, right-extends t s (same .1, same .0) q a)
 
 -- Two books with the same question and the same admitted summaries.
-pub books-same : (b c : Book) → b .question ≡ c .question → SameAdmitted (admittedOf b) (admittedOf c) → SameAnswers (admittedOf b) (b .question) (admittedOf c) (c .question)
-books-same b c question same = subst (SameAnswers (admittedOf b) (b .question) (admittedOf c)) question (same-answers (admittedOf b) (admittedOf c) same (b .question))
+pub books-same : (b c : Book) → b .question ≡ c .question → SameAdmitted (admittedOf b) (admittedOf c) → (a : Answered) → Right (admittedOf b) (b .question) a ↔ Right (admittedOf c) (c .question) a
+books-same b c question same a = subst (λ q. Right (admittedOf b) (b .question) a ↔ Right (admittedOf c) q a) question (same-right (admittedOf b) (admittedOf c) same (b .question) a)
 
 abbrev pub LeftOut : ℕ → Summary → Type 0
 LeftOut need m = Admitted need (m .stamp) (m .rule) → ⊥
@@ -85,7 +90,7 @@ left-out-admitted need (m ∷ ms) (n ∷ ns) h = ap₂ _∷_ (left-out-same need
 
 -- "A summary left out has no say"
 pub left-out-no-say : (b c : Book) → b .question ≡ c .question → b .need ≡ c .need → SameButLeftOut (b .need) (b .summaries) (c .summaries)
-    → SameAnswers (admittedOf b) (b .question) (admittedOf c) (c .question)
+    → (a : Answered) → Right (admittedOf b) (b .question) a ↔ Right (admittedOf c) (c .question) a
 left-out-no-say b c question need h = books-same b c question (λ n r e. subst (λ s. summary s n ≡ some r) same e, λ n r e. subst (λ s. summary s n ≡ some r) (sym same) e)
   where
     same : admittedOf b ≡ admittedOf c
