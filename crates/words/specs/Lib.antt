@@ -29,4 +29,6 @@ pub mod WitnessExists
 pub mod Admits
 pub mod Safety
 pub mod Answered
+pub mod Written
+pub mod Examples
 pub mod Sheets

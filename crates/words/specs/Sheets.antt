@@ -4,10 +4,11 @@ use mathlib.Core.Option.{Option, some, none}
 use mathlib.Core.List.{List, [], _∷_, map}
 use Prim.Native.Nat.{ℕ}
 use lib.Dec.{T}
-use Rattle.words.specs.Words.{_∈_, Term, var, con, Subgoal, Rule}
+use Rattle.words.specs.Words.{_∈_, Term, con, Subgoal, Rule}
 use Rattle.words.specs.Refresh.{admitted}
 use Rattle.words.specs.Answer.{Rewrites}
-use Rattle.words.specs.Book.{Summary, Book, admittedOf}
+use Rattle.words.specs.Book.{Book, admittedOf}
+use Rattle.words.specs.Written.{x0, x1, x2, x3, rule, on, at1, bookA}
 use Rattle.words.specs.Sound.{AllSafe}
 use Rattle.words.specs.Tests.{every, every-sound}
 use Rattle.words.specs.Lists.{same-map}
@@ -22,50 +23,11 @@ pub record Sheet : Type 0 where
 abbrev pub computed : Sheet → Option Answered
 computed s = answered (admittedOf (s .book)) (s .book .question)
 
--- How a sheet is written.
-abbrev pub rule : List (Term ℕ) → List (Subgoal (Term ℕ)) → Rule ℕ
-rule head body = record { head = head; body = body }
-
-abbrev pub on : ℕ → List (Term ℕ) → Subgoal (Term ℕ)
-on n ts = record { relation = n; terms = ts }
-
-abbrev pub stamped : ℕ → Rule ℕ → Summary
-stamped n r = record { stamp = n; rule = r }
-
--- "The need and all stamps are 1 unless said."
-abbrev pub at1 : List ℕ → Rule ℕ → List (Rule ℕ) → Book
-at1 arities q rules = record { arities = arities; need = 1; question = q; summaries = map (stamped 1) rules }
-
 abbrev pub accepts : Book → List (Subgoal (Term ℕ)) → List ℕ → List ℕ → Sheet
 accepts b rows there back = record { book = b; expected = some record { rows = rows; there = there; back = back } }
 
 abbrev pub refused10 : Book → Sheet
 refused10 b = record { book = b; expected = none }
-
-abbrev x0 : Term ℕ
-x0 = var 0
-
-abbrev x1 : Term ℕ
-x1 = var 1
-
-abbrev x2 : Term ℕ
-x2 = var 2
-
-abbrev x3 : Term ℕ
-x3 = var 3
-
--- Book A, with the stamp of summary 3.
-abbrev pub bookA : ℕ → Book
-bookA third = record {
-  arities = 2 ∷ 2 ∷ [];
-  need = 4294967290;
-  question = rule (x0 ∷ []) (on 0 (x0 ∷ x1 ∷ []) ∷ on 1 (x1 ∷ con 7 ∷ []) ∷ []);
-  summaries =
-      stamped 3 (rule (x0 ∷ x1 ∷ []) (on 0 (x0 ∷ x1 ∷ []) ∷ []))
-      ∷ stamped 4294967295 (rule (x0 ∷ x1 ∷ []) (on 1 (x0 ∷ x1 ∷ []) ∷ []))
-      ∷ stamped third (rule (x0 ∷ x2 ∷ []) (on 0 (x0 ∷ x1 ∷ []) ∷ on 1 (x1 ∷ x2 ∷ []) ∷ []))
-      ∷ [];
-}
 
 -- Source 000, example 4.1: a is relation 0, b is 1; X, Y, Z are 0, 1, 2.
 abbrev example41 : Book
