@@ -30,6 +30,7 @@ pub mod Named
 pub mod Witness
 pub mod WitnessExists
 pub mod Admits
+pub mod Leads
 pub mod Safety
 pub mod Answered
 pub mod Written
