@@ -1,10 +1,9 @@
 -- Admitted, as a record and as a test, is the same; the distance is the one step from need to stamp around the ring.
-use mathlib.Core.Path.{_≡_, refl, sym, ap, _∙_, subst}
+use mathlib.Core.Path.{_≡_, refl, sym, subst}
 use mathlib.Core.Logic.{_↔_}
-use mathlib.Core.Bool.{Bool, true, false}
-use Prim.Native.Nat.{ℕ, _+_, _-_, _%_, _<_}
+use Prim.Native.Nat.{ℕ, _+_, _%_, _<_}
 use native.Mathlib.Omega.{arith}
-use lib.IntN.{ℤ, pos, negsuc}
+use lib.IntN.{pos, negsuc}
 use lib.Dec.{T}
 use Rattle.words.specs.Words.{Rule}
 use Rattle.words.specs.Refresh.{ring, distance, Lead, ahead, tie, lead, Admitted, leadsBy, admitted}

@@ -1,4 +1,4 @@
--- An accepted answer with its witness, declared and computed: it exists exactly where some list of rows works, and is one.
+-- An accepted answer with its witness, computed; it exists exactly where some list of rows works, and is one.
 use mathlib.Core.Path.{_≡_, refl, sym, ap, _∙_, subst}
 use mathlib.Core.Logic.{_↔_}
 use mathlib.Core.Option.{Option, some, none, Option·none-ne-some, Option·some-ne-none, Option·some-injective}
@@ -7,21 +7,11 @@ use Prim.Native.Nat.{ℕ}
 use Rattle.words.specs.Words.{Term, Subgoal, Rule}
 use Rattle.words.specs.Summaries.{Summaries, rewriting}
 use Rattle.words.specs.Answer.{Rewrites, Answer, FirstThere, FirstBack}
+pub use Rattle.words.specs.Result.{Answered, Right}
 use Rattle.words.specs.Sound.{AllSafe}
 use Rattle.words.specs.Rewritings.{answer, answer-is, answer-exists, answer-none, answer-unique}
 use Rattle.words.specs.Witness.{there, there-is, there-unique, back, back-is, back-unique}
 use Rattle.words.specs.WitnessExists.{maps-there, maps-back}
-
--- The rows, and the two parts of the witness.
-pub record Answered : Type 0 where
-  pub rows : List (Subgoal (Term ℕ))
-  pub there : List ℕ
-  pub back : List ℕ
-
-pub record Right (s : Summaries) (q : Rule ℕ) (a : Answered) : Type 0 where
-  pub answers : Answer s q (a .rows)
-  pub goes : FirstThere s q (rewriting q (a .rows)) (a .there)
-  pub returns : FirstBack s q (rewriting q (a .rows)) (a .back)
 
 abbrev joinBack : List (Subgoal (Term ℕ)) → List ℕ → Option (List ℕ) → Option Answered
 joinBack l t none = none

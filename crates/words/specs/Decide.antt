@@ -4,10 +4,10 @@ use mathlib.Core.Bool.{Bool, true, false}
 use mathlib.Core.List.{List, [], _∷_, map, List·Memᴰ·head, List·Memᴰ·not-nil}
 use Prim.Native.Nat.{ℕ}
 use lib.Dec.{T}
-use Rattle.words.specs.Words.{_∈_, Term, con, Subgoal, Rule, Listed, Yields, itself, Mapping}
+use Rattle.words.specs.Words.{_∈_, con, Subgoal, Rule, Listed, Yields, itself, Mapping}
 use Rattle.words.specs.Tests.{decided}
 use Rattle.words.specs.Equal.{Eq, eqNumber, eqTerm}
-use Rattle.words.specs.Placings.{Target, Placing}
+use Rattle.words.specs.Placings.{Target}
 use Rattle.words.specs.Ways.{factOf, way-yields, yields-way, ways, ways-sound, ways-complete}
 
 abbrev some? : {A : Type 0} → List A → Bool

@@ -1,7 +1,7 @@
 -- A list of just those with a property, ascending by an order: its first element is the first of them all.
-use mathlib.Core.Path.{_≡_, refl, sym, ap, _∙_, subst}
+use mathlib.Core.Path.{_≡_, refl, sym, ap, subst}
 use mathlib.Core.Logic.{_⊎_, inl, inr, _↔_}
-use mathlib.Core.Option.{Option, some, none, Option·some-ne-none, Option·none-ne-some, Option·some-injective}
+use mathlib.Core.Option.{some, none, Option·some-ne-none, Option·none-ne-some, Option·some-injective}
 use mathlib.Core.List.{List, [], _∷_, List·Memᴰ·head, List·Memᴰ·tail, List·Memᴰ·not-nil}
 use Rattle.words.specs.Words.{_∈_}
 use Rattle.words.specs.Order.{First}

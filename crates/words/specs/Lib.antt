@@ -7,6 +7,8 @@ pub mod Book
 pub mod Tests
 pub mod Equal
 pub mod Bindings
+pub mod Exact
+pub mod Meet
 pub mod Lists
 pub mod Placings
 pub mod Ways
@@ -17,6 +19,7 @@ pub mod Rising
 pub mod Enumerate
 pub mod Sorted
 pub mod Sound
+pub mod Result
 pub mod Counted
 pub mod RowsYielded
 pub mod Rows
@@ -27,6 +30,7 @@ pub mod Named
 pub mod Witness
 pub mod WitnessExists
 pub mod Admits
+pub mod Leads
 pub mod Safety
 pub mod Answered
 pub mod Written

@@ -6,7 +6,7 @@ use Prim.Native.Nat.{ℕ, _<_}
 use native.Mathlib.Omega.{arith}
 use lib.ListN.{length}
 use lib.Dec.{T, ltb, ltb→lt, lt→ltb}
-use Rattle.words.specs.Words.{Term, var, con, Subgoal}
+use Rattle.words.specs.Words.{Term, var, con}
 use Rattle.words.specs.Order.{TermBefore, ListBefore, RowBefore, ShorterFirst}
 use Rattle.words.specs.Equal.{eqNumber, eqTerm, eqSubgoal}
 use Rattle.words.specs.Strict.{Strict, numbers-compare, numberOrder, listOrder, numberFirstOrder}

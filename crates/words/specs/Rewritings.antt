@@ -1,20 +1,20 @@
 -- The answer computed: the first of all equivalent ascending lists of summary rows, the shortest first.
-use mathlib.Core.Path.{_≡_, refl, sym, ap, _∙_, subst}
-use mathlib.Core.Logic.{_⊎_, inl, inr, ⊎-elim, _↔_}
+use mathlib.Core.Path.{_≡_, sym, _∙_, subst}
+use mathlib.Core.Logic.{inl, inr, _↔_}
 use mathlib.Core.Bool.{Bool}
-use mathlib.Core.Option.{Option, some, none, Option·some-ne-none}
-use mathlib.Core.List.{List, [], _∷_}
-use Prim.Native.Nat.{ℕ, zero, suc, _+_, _≤_, _<_}
+use mathlib.Core.Option.{Option, some, none}
+use mathlib.Core.List.{List, []}
+use Prim.Native.Nat.{ℕ, suc, _<_}
 use native.Mathlib.Omega.{arith}
 use lib.ListN.{length}
 use Rattle.words.specs.Words.{_∈_, Term, Subgoal, Rule}
 use Rattle.words.specs.Summaries.{Summaries, SummaryRow, rewriting}
-use Rattle.words.specs.Order.{ListBefore, RowBefore, ShorterFirst, First}
+use Rattle.words.specs.Order.{ListBefore, RowBefore, ShorterFirst}
 use Rattle.words.specs.Answer.{Rewrites, Answer}
 use Rattle.words.specs.Sound.{AllSafe}
 use Rattle.words.specs.Equal.{eqNumber}
 use Rattle.words.specs.Lists.{gather, gather-in, gather-out, passing, passing-in, passing-out, first}
-use Rattle.words.specs.Strict.{Strict, first-unique}
+use Rattle.words.specs.Strict.{first-unique}
 use Rattle.words.specs.Orders.{rowOrder, shorterOrder}
 use Rattle.words.specs.Rising.{Rising, rising-gather, rising-by, rising-passing, ascending-rising, rising-ascending}
 use Rattle.words.specs.Enumerate.{Enumerates, enumerates-first, enumerates-some, enumerates-none}

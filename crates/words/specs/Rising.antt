@@ -1,13 +1,12 @@
 -- Rising lists: each element before all that follow. Ascending is rising by the order of rows.
-use mathlib.Core.Path.{_≡_, refl, sym, subst}
-use mathlib.Core.Logic.{_⊎_, inl, inr, ⊎-elim, _↔_}
+use mathlib.Core.Path.{refl, sym, subst}
+use mathlib.Core.Logic.{⊎-elim}
 use mathlib.Core.Bool.{Bool, true, false, cond}
-use mathlib.Core.List.{List, [], _∷_, _++_, map, List·Memᴰ·head, List·Memᴰ·tail, Memᴰ·cast, Memᴰ·of-map, List·Memᴰ·append-cases, List·Memᴰ·not-nil}
+use mathlib.Core.List.{List, [], _∷_, _++_, map, List·Memᴰ·head, List·Memᴰ·tail, Memᴰ·of-map, List·Memᴰ·append-cases, List·Memᴰ·not-nil}
 use Rattle.words.specs.Words.{_∈_, Term, Subgoal}
 use Prim.Native.Nat.{ℕ}
 use Rattle.words.specs.Order.{RowBefore, Ascending}
 use Rattle.words.specs.Lists.{gather, gather-out, passing, passing-out}
-use Rattle.words.specs.Strict.{Strict}
 use Rattle.words.specs.Orders.{rowOrder}
 
 abbrev pub Rising : {A : Type 0} → (A → A → Type 0) → List A → Type 0

@@ -1,9 +1,9 @@
 -- All summary rows of a question, ascending, each once.
-use mathlib.Core.Path.{_≡_, refl, sym, ap, _∙_, subst}
+use mathlib.Core.Path.{_≡_, refl, sym, subst}
 use mathlib.Core.Logic.{_↔_}
 use mathlib.Core.Option.{Option, some, none, Option·none-ne-some}
-use mathlib.Core.List.{List, map, Memᴰ·cast, Memᴰ·map, Memᴰ·of-map}
-use Prim.Native.Nat.{ℕ, suc, _≤_}
+use mathlib.Core.List.{List, map, Memᴰ·map, Memᴰ·of-map}
+use Prim.Native.Nat.{ℕ, _≤_}
 use native.Mathlib.Omega.{arith}
 use lib.ListN.{length}
 use Rattle.words.specs.Words.{_∈_, Term, con, Subgoal, Rule}

@@ -12,7 +12,7 @@ use Rattle.words.specs.Decide.{unnamed, facts-unnamed}
 
 module _ {A X : Type 0} (eX : Eq X) (eA : Eq A) (k : ℕ → A) (q : Rule X) (l : List (Subgoal A)) where
   abbrev headOf : Placing X A → List A
-  headOf p = map (becomes k (valued eX eA k (p .bindings))) (q .head)
+  headOf p = map (becomes k (valued eX (k 0) (p .bindings))) (q .head)
 
   abbrev pub yielded : List (List A)
   yielded = map headOf (placings eX eA k (map unnamed l) (q .body) unbound)
@@ -21,7 +21,7 @@ module _ {A X : Type 0} (eX : Eq X) (eA : Eq A) (k : ℕ → A) (q : Rule X) (l 
   yielded-sound row m =
       let p = Memᴰ·of-map headOf (placings eX eA k (map unnamed l) (q .body) unbound) m in
       let r = placings-sound eX eA k (map unnamed l) (q .body) unbound (p .0) (p .1) in
-      let w : Way k q (map unnamed l) (headOf (p .0)) (p .0 .targets) = record { value = valued eX eA k (p .0 .bindings); gives = refl; sends = r .back (valued eX eA k (p .0 .bindings)) (r .fine tt) .1; inside = r .inside } in
+      let w : Way k q (map unnamed l) (headOf (p .0)) (p .0 .targets) = record { value = valued eX (k 0) (p .0 .bindings); gives = refl; sends = r .back (valued eX (k 0) (p .0 .bindings)) (r .fine tt) .1; inside = r .inside } in
       subst (λ d. Yields k q (Listed d) row) (facts-unnamed l) (subst (Yields k q (Listed (map factOf (map unnamed l)))) (p .2) (way-yields w))
 
   pub yielded-complete : Safe q → (row : List A) → Yields k q (Listed l) row → row ∈ yielded
@@ -40,7 +40,7 @@ module _ {A X : Type 0} (eX : Eq X) (eA : Eq A) (k : ℕ → A) (q : Rule X) (l 
           p = placings-sound eX eA k (map unnamed l) (q .body) unbound record { targets = w .0; bindings = a .bindings } (a .among)
 
           τ : X → A
-          τ = valued eX eA k (a .bindings)
+          τ = valued eX (k 0) (a .bindings)
 
           bodies : map (each (becomes k σ)) (q .body) ≡ map (each (becomes k τ)) (q .body)
           bodies = w .1 .sends ∙ sym (p .back τ (p .fine tt) .1)

@@ -1,15 +1,15 @@
 -- Safe as a test, of a rule and of the admitted summaries.
-use mathlib.Core.Path.{_≡_, refl, sym, ap, _∙_, subst}
-use mathlib.Core.Bool.{Bool, true, false}
-use mathlib.Core.Option.{Option, some, none, Option·none-ne-some, Option·some-injective}
-use mathlib.Core.List.{List, Memᴰ·cast}
+use mathlib.Core.Path.{_≡_, refl, ap, subst}
+use mathlib.Core.Bool.{Bool, true}
+use mathlib.Core.Option.{Option, some, none, Option·none-ne-some}
+use mathlib.Core.List.{Memᴰ·cast}
 use Prim.Native.Nat.{ℕ}
 use lib.Dec.{T}
-use Rattle.words.specs.Words.{_∈_, Term, var, con, Subgoal, Rule, Safe}
-use Rattle.words.specs.Summaries.{place, Summaries, orNone, summary}
+use Rattle.words.specs.Words.{_∈_, Term, var, con, Rule, Safe}
+use Rattle.words.specs.Summaries.{place, Summaries, orNone}
 use Rattle.words.specs.Sound.{AllSafe}
 use Rattle.words.specs.Tests.{every, any, every-sound, every-complete, any-sound, any-complete, decided}
-use Rattle.words.specs.Equal.{Eq, eqNumber, eqTerm, eq-test}
+use Rattle.words.specs.Equal.{Eq, eqNumber, eqTerm}
 use Rattle.words.specs.Counted.{place-of, place-in}
 
 module _ {X : Type 0} (e : Eq X) (r : Rule X) where

@@ -4,7 +4,7 @@ use mathlib.Core.Option.{Option, some, none}
 use mathlib.Core.List.{List, [], _∷_, map}
 use Prim.Native.Nat.{ℕ}
 use lib.Dec.{T}
-use Rattle.words.specs.Words.{_∈_, Term, con, Subgoal, Rule}
+use Rattle.words.specs.Words.{_∈_, Term, var, con, Subgoal, Rule}
 use Rattle.words.specs.Refresh.{admitted}
 use Rattle.words.specs.Answer.{Rewrites}
 use Rattle.words.specs.Book.{Book, admittedOf}
@@ -62,6 +62,10 @@ star = at1 (2 ∷ []) (rule (x0 ∷ []) (on 0 (x0 ∷ x1 ∷ []) ∷ on 0 (x0 �
 abbrev both : List (Rule ℕ) → Book
 both = at1 (1 ∷ 1 ∷ []) (rule [] (on 0 (x0 ∷ []) ∷ on 1 (x0 ∷ []) ∷ []))
 
+-- () from 0(X0) to 0(X7), eight subgoals: 64 rows
+abbrev eight : Book
+eight = at1 (1 ∷ []) (rule [] (map (λ n. on 0 (var n ∷ [])) (0 ∷ 1 ∷ 2 ∷ 3 ∷ 4 ∷ 5 ∷ 6 ∷ 7 ∷ []))) (rule (x0 ∷ x1 ∷ []) (on 0 (x0 ∷ []) ∷ on 0 (x1 ∷ []) ∷ []) ∷ [])
+
 -- Sheets that were wrong.
 abbrev wrongA : Book
 wrongA = at1 (2 ∷ 2 ∷ []) (rule (x0 ∷ []) (on 0 (x0 ∷ x1 ∷ []) ∷ on 1 (x1 ∷ con 7 ∷ []) ∷ [])) (rule (x0 ∷ []) (on 0 (x0 ∷ x1 ∷ []) ∷ []) ∷ rule (x0 ∷ []) (on 1 (x0 ∷ con 7 ∷ []) ∷ []) ∷ [])
@@ -99,6 +103,7 @@ sheets =
     ∷ refused10 wrongB
     ∷ accepts wrongC (on 2 (x0 ∷ []) ∷ on 3 (x0 ∷ []) ∷ []) (1 ∷ 1 ∷ 1 ∷ 2 ∷ 2 ∷ 1 ∷ 2 ∷ 2 ∷ 1 ∷ 3 ∷ 2 ∷ 3 ∷ []) (1 ∷ 2 ∷ 5 ∷ 3 ∷ 4 ∷ 6 ∷ [])
     ∷ refused10 wrongD
+    ∷ accepts eight (on 1 (x0 ∷ x0 ∷ []) ∷ []) (1 ∷ 1 ∷ 1 ∷ 1 ∷ 1 ∷ 1 ∷ 1 ∷ 1 ∷ 1 ∷ 1 ∷ 1 ∷ 1 ∷ 1 ∷ 1 ∷ 1 ∷ 1 ∷ []) (1 ∷ 1 ∷ [])
     -- no summaries
     ∷ refused10 (both [])
     ∷ []

@@ -1,16 +1,14 @@
 -- The rising lists from the elements of a rising list: shorter first, those of one length by their elements.
-use mathlib.Core.Path.{_≡_, refl, sym, ap, _∙_, subst}
-use mathlib.Core.Logic.{_⊎_, inl, inr, ⊎-elim}
+use mathlib.Core.Path.{_≡_, refl, sym, ap, subst}
+use mathlib.Core.Logic.{_⊎_, inl, inr}
 use mathlib.Core.List.{List, [], _∷_, _++_, map, List·Memᴰ·head, List·Memᴰ·tail, Memᴰ·cast, Memᴰ·map, Memᴰ·of-map, List·Memᴰ·append-cases, Memᴰ·append-left, Memᴰ·append-right, List·Memᴰ·not-nil, List·Memᴰ·eq-of-singleton}
-use Prim.Native.Nat.{ℕ, zero, suc, _+_, _≤_, _<_}
+use Prim.Native.Nat.{ℕ, zero, suc, _≤_}
 use native.Mathlib.Omega.{arith}
 use lib.ListN.{length}
 use Rattle.words.specs.Words.{_∈_}
 use Rattle.words.specs.Order.{ListBefore}
-use Rattle.words.specs.Lists.{gather, gather-in, gather-out}
 use Rattle.words.specs.Strict.{Strict}
-use Rattle.words.specs.Rising.{Rising, rising-append, rising-gather, rising-map}
-use Rattle.words.specs.Counted.{counted, counted-in, counted-rising}
+use Rattle.words.specs.Rising.{Rising, rising-append, rising-map}
 
 -- with n elements, those that have the first one first
 abbrev pub sublists : {A : Type 0} → ℕ → List A → List (List A)

@@ -5,7 +5,8 @@ use Prim.Native.Nat.{ℕ}
 use Rattle.words.specs.Words.{_∈_, Term, Subgoal, Rule, Listed, becomes, each, Yields}
 use Rattle.words.specs.Equal.{Eq}
 use Rattle.words.specs.Lists.{from, from-out}
-use Rattle.words.specs.Bindings.{unbound, valued, meetAll, exact-all}
+use Rattle.words.specs.Bindings.{unbound, valued}
+use Rattle.words.specs.Meet.{meetAll, exact-all}
 use Rattle.words.specs.Placings.{Target, Placing, placings, placings-sound, placings-complete}
 
 abbrev pub factOf : {A : Type 0} → Target A → Subgoal A
@@ -59,8 +60,8 @@ module _ {A X : Type 0} (eX : Eq X) (eA : Eq A) (k : ℕ → A) where
       let s = from-out (placings eX eA k ts (q .body)) (meetAll eX eA k (q .head) row unbound) m in
       let r = placings-sound eX eA k ts (q .body) (s .0) p (s .2) in
       let x = exact-all eX eA k (q .head) row in
-      let b = r .back (valued eX eA k (p .bindings)) (r .fine (x .fine unbound (s .0) (s .1) tt)) in
-      record { value = valued eX eA k (p .bindings); gives = x .back unbound (s .0) (s .1) (valued eX eA k (p .bindings)) (b .0) .1; sends = b .1; inside = r .inside }
+      let b = r .back (valued eX (k 0) (p .bindings)) (r .fine (x .fine unbound (s .0) (s .1) tt)) in
+      record { value = valued eX (k 0) (p .bindings); gives = x .back unbound (s .0) (s .1) (valued eX (k 0) (p .bindings)) (b .0) .1; sends = b .1; inside = r .inside }
 
   pub ways-complete : (q : Rule X) (ts : List (Target A)) (row : List A) (us : List (Target A)) → Way k q ts row us → (p : Placing X A) × (p ∈ ways q ts row) × (p .targets ≡ us)
   ways-complete q ts row us w =

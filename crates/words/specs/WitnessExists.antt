@@ -1,11 +1,10 @@
 -- Some bytes give a containment mapping exactly where there is one: there, from the question to the expansion; back, the other way.
-use mathlib.Core.Path.{_≡_, refl, sym, subst}
-use mathlib.Core.Logic.{_↔_, ⊎-elim}
-use mathlib.Core.Option.{some}
+use mathlib.Core.Path.{refl, sym, subst}
+use mathlib.Core.Logic.{⊎-elim}
 use mathlib.Core.List.{List, [], _∷_, map, List·Memᴰ·head, List·Memᴰ·tail, Memᴰ·map, Memᴰ·of-map, Memᴰ·cast, List·Memᴰ·append-cases, Memᴰ·append-left, Memᴰ·append-right, List·Memᴰ·not-nil}
 use Prim.Native.Nat.{ℕ}
-use Rattle.words.specs.Words.{_∈_, Term, con, Subgoal, Rule, Listed, becomes, each, Mapping}
-use Rattle.words.specs.Summaries.{place, Summaries, uses, joined, expansion}
+use Rattle.words.specs.Words.{_∈_, Term, con, Subgoal, Rule, becomes, each, Mapping}
+use Rattle.words.specs.Summaries.{Summaries, uses, joined, expansion}
 use Rattle.words.specs.Answer.{Sends, AtPlaces, AtPairs, There, Back, FirstThere, FirstBack}
 use Rattle.words.specs.Counted.{place-of, place-in}
 use Rattle.words.specs.Enumerate.{enumerates-some}
