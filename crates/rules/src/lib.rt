@@ -67,13 +67,14 @@ fn marked(m: Marks, v: u32) -> Marks
     }
 }
 
-// One constant more, whichever it is.
+// One constant more, whichever it is: the terms are no longer variables alone.
 fn unmarked(m: Marks) -> Marks
     ensures { λ r. ⌜ ((n : ℕ) → r ≡ mark m (con n)) ⌝ }
 {
+    let plain = false;
     Marks {
         vars: m.vars,
-        plain: false,
+        plain,
     }
 }
 
