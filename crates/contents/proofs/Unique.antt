@@ -2,9 +2,9 @@
 -- that only proofs see.
 use mathlib.Core.Path.{_≡_, refl, ap, sym, _∙_}
 use mathlib.Core.List.{List, List-discrete}
-use Prim.Native.Nat.{ℕ, _+_, _<_}
+use Prim.Native.Nat.{ℕ, _<_}
 use native.Mathlib.Decide.{ℕ-discrete}
-use Rattle.layout.specs.Contents.{entriesIn, offsetAt, partAt}
+use Rattle.layout.specs.Contents.{entriesIn}
 use Rattle.layout.specs.Refusals.{Loads}
 use Rattle.layout.proofs.FirstFaults.{loads-unrefused, first-fault-unique}
 use Rattle.contents.specs.EntryPart.{Lent, LiesIn, EntryPart}
