@@ -5,7 +5,7 @@ use native.Mathlib.Omega.{arith}
 use lib.ListN.{length, getD}
 use borrow.Author.Count.{below-more}
 use Rattle.layout.specs.BookLayout.{Arities}
-use Rattle.layout.proofs.Places.{place-of, stands-in}
+use Rattle.layout.proofs.Places.{place-of, getD-in}
 
 -- Each byte below i is an arity.
 pub record InRange (part : List ℕ) (i : ℕ) : Type 0 where
@@ -23,4 +23,4 @@ module _ (part : List ℕ) where
 
   -- An arity's range at a place of the list.
   pub arity-at : (i : ℕ) → i < length part → Arities part → (1 ≤ getD part i 0) × (getD part i 0 ≤ 8)
-  arity-at i h w = w .range (getD part i 0) (stands-in part i 0 h)
+  arity-at i h w = w .range (getD part i 0) (getD-in part i 0 h)

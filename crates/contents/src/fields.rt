@@ -4,8 +4,8 @@ ghost use Prim.Native.Nat.{_+_, _*_, _≤_, _<_};
 ghost use lib.ListN.{length};
 ghost use Rattle.layout.specs.BookLayout.{entries};
 ghost use Rattle.layout.specs.Contents.{count, offsetAt, lengthAt, stampAt};
-use super::numbers::u16_at;
-use super::numbers::u32_at;
+use numbers::u16_at;
+use numbers::u32_at;
 
 pub(crate) fn count_of(book: &[u8]) -> usize
     requires { ⌜ 2 ≤ length (now book) ⌝ }

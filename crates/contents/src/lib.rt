@@ -4,7 +4,6 @@ ghost use Rattle.contents.specs.EntryPart.{EntryPart};
 
 pub mod fields; // count, offset, length and stamp, as numbers
 mod gaps; // the rule of no gaps
-pub mod numbers; // numbers of two and four bytes
 mod relations; // entry 0
 
 use fields::count_of;

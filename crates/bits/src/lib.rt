@@ -1,0 +1,27 @@
+// Sets of the numbers 0 to 63 in one word, a bit for each.
+ghost use mathlib.Core.Path.{_≡_};
+ghost use Prim.Native.Nat.{_<_};
+ghost use Rattle.bits.specs.Sets.{with, has, Within};
+
+// The set with one number more.
+pub fn add(set: u64, x: u32) -> u64
+    requires { ⌜ x < 64 ⌝ }
+    ensures { λ r. ⌜ r ≡ with set x ⌝ }
+{
+    set | (1u64 << x)
+}
+
+// Whether every member of the first set is one of the second.
+pub fn within(a: u64, b: u64) -> bool
+    ensures { λ r. ⌜ Within a b r ⌝ }
+{
+    (a | b) == b
+}
+
+// Whether the number is a member.
+pub fn holds(set: u64, x: u32) -> bool
+    requires { ⌜ x < 64 ⌝ }
+    ensures { λ r. ⌜ r ≡ has set x ⌝ }
+{
+    (set >> x) % 2 == 1
+}

@@ -1,0 +1,68 @@
+"""Books as values, as text and as bytes, for the generators of this folder.
+
+A term is (0, n), variable n, or (1, c), constant c: such pairs sort as the specification says.
+A rule is (head, body): a list of terms, and a list of subgoals (relation, terms). Its text is the
+specification's: "(X0) from 0(X0,X1), 1(X1,7)", in summaries with A, B, C, .. for X0, X1, X2, ..
+"""
+import re
+import struct
+
+LONGEST = 25040
+SHORTEST = 35
+
+
+def term(text):
+    if text[0] == "X":
+        return (0, int(text[1:]))
+    return (0, ord(text) - ord("A")) if text.isalpha() else (1, int(text))
+
+
+def terms(text):
+    return [term(t) for t in text.split(",")] if text else []
+
+
+def rule(text):
+    head, body = text.split(" from ")
+    return (terms(head[1:-1]), [(int(r), terms(ts)) for r, ts in re.findall(r"(\d+)\(([^)]*)\)", body)])
+
+
+def rule_text(a_rule):
+    def named(ts):
+        return "(" + ",".join(("X%d" if tag == 0 else "%d") % n for tag, n in ts) + ")"
+    return named(a_rule[0]) + " from " + ", ".join("%d%s" % (r, named(ts)) for r, ts in a_rule[1])
+
+
+def term_bytes(t):
+    return struct.pack("<BI", *t)
+
+
+def rule_bytes(a_rule):
+    head, body = a_rule
+    out = bytes([len(head), len(body)]) + b"".join(map(term_bytes, head))
+    return out + b"".join(bytes([r]) + b"".join(map(term_bytes, ts)) for r, ts in body)
+
+
+def contents_end(entries):
+    return 2 + 12 * entries
+
+
+def layout(bodies, stamps, count=None):
+    """The bodies without gaps, behind the contents that say so. Another count is a lie."""
+    out = struct.pack("<H", len(bodies) - 2 if count is None else count)
+    at = contents_end(len(bodies))
+    for body, stamp in zip(bodies, stamps):
+        out += struct.pack("<III", at, len(body), stamp)
+        at += len(body)
+    return out + b"".join(bodies)
+
+
+def book(arities, need, question, summaries):
+    """question: a rule; summaries: pairs of stamp and rule. Rules may be text."""
+    as_rule = lambda r: rule(r) if isinstance(r, str) else r
+    bodies = [bytes(arities), rule_bytes(as_rule(question))] + [rule_bytes(as_rule(r)) for _, r in summaries]
+    return layout(bodies, [0, need] + [stamp for stamp, _ in summaries])
+
+
+def stream(books):
+    """Many books, each after its length: what the programs' form for many books takes."""
+    return b"".join(struct.pack("<I", len(b)) + b for b in books)
