@@ -1,0 +1,4 @@
+pub mod Grants
+pub mod Once
+pub mod Total
+pub mod Demand
