@@ -39,8 +39,11 @@ from-summaries need (m ∷ ms) (suc zero) r e = (m, List·Memᴰ·head refl, go 
     go false p = absurd (Option·none-ne-some r p)
 from-summaries need (m ∷ ms) (suc (suc n)) r e = let w = from-summaries need ms (suc n) r e in (w .0, List·Memᴰ·tail (w .1), w .2)
 
+pub admitted-from : (b : Book) (n : ℕ) (r : Rule ℕ) → summary (admittedOf b) n ≡ some r → (m : Summary) × (m ∈ b .summaries) × (m .rule ≡ r)
+admitted-from b n r e = from-summaries (b .need) (b .summaries) n r e
+
 sound-admitted : (b : Book) → Granted b → Every (admittedOf b) (GrantedSummary (b .arities))
-sound-admitted b sound n r e = let w = from-summaries (b .need) (b .summaries) n r e in subst (GrantedSummary (b .arities)) (w .2) (sound .summaries-sound (w .0) (w .1))
+sound-admitted b sound n r e = let w = admitted-from b n r e in subst (GrantedSummary (b .arities)) (w .2) (sound .summaries-sound (w .0) (w .1))
 
 pub sound-fits : (b : Book) → Granted b → FitEvery (b .arities) (admittedOf b)
 sound-fits b sound n r e = sound-admitted b sound n r e .fits
