@@ -5,6 +5,9 @@ ghost use Rattle.layout.specs.Contents.{count, entriesIn, partAt};
 ghost use Rattle.layout.specs.Refusals.{Loads, mostAt};
 ghost use Rattle.rules.specs.Judged.{Judged, faultNumber, refusalNumber};
 ghost use Rattle.books.specs.Says.{ReadingSays, ToldSays, summaryAt, toldOf};
+
+pub mod parts; // entries of a book that loads
+
 use contents::Loaded;
 use contents::fields::entries_of;
 use contents::fields::length_at;
