@@ -9,6 +9,7 @@ use Rattle.words.specs.Order.{ListBefore, First}
 use Rattle.placing.specs.Task.{Task, goals, Completes, Extends}
 use Rattle.placing.specs.Taking.{Affords, Open}
 use Rattle.placing.specs.Mapped.{laid}
+use Rattle.placing.specs.declared.Reasons.{Reasons}
 use Rattle.placing.specs.declared.Placed.{Placed}
 use Rattle.placing.specs.declared.Places.{Places}
 
@@ -34,12 +35,12 @@ abbrev pub AgreesOn : List ℕ → ℕ → (ℕ → ℕ) → Type 0
 AgreesOn b set v = (x : ℕ) → Has set x → (getD b x 0 ≡ 0 → ⊥) → v x ≡ getD b x 0
 
 -- A failure tells its reasons, a set of slots: no v that agrees with b on them has a completion that the rows allow. If it was not short of rows, not even with more left.
-pub record Failed (p : Task) (at : ℕ) (b : List ℕ) (from used may left why : ℕ) (short : Bool) : Type 0 where
-  pub never : (v : ℕ → ℕ) (l : List ℕ) → AgreesOn b why v → FromOn from l → Completes p (goals p - at) at v l → Open p used may l → (short ≡ true → Affords p used may left l) → ⊥
+pub record Failed (p : Task) (at : ℕ) (b : List ℕ) (from used may left : ℕ) (why : Reasons) : Type 0 where
+  pub never : (v : ℕ → ℕ) (l : List ℕ) → AgreesOn b (why .slots) v → FromOn from l → Completes p (goals p - at) at v l → Open p used may l → (why .short ≡ true → Affords p used may left l) → ⊥
 
 pub record Answer (p : Task) (at : ℕ) (b : List ℕ) (from used may left : ℕ) (r : Placed) : Type 0 where
   pub found : r .ok ≡ true → (l : List ℕ) × (r .ks ≡ laid at l) × First (Afforded p at b from used may left) (ListBefore _<_) l
-  pub none : r .ok ≡ false → Failed p at b from used may left (r .why) (r .short)
+  pub none : r .ok ≡ false → Failed p at b from used may left (r .why)
 
 -- Without reasons, and with every row in use: the first completion's places, or that there is none.
 pub record PlacesFrom (p : Task) (at : ℕ) (b : List ℕ) (from : ℕ) (r : Places) : Type 0 where

@@ -20,15 +20,12 @@ pub record InRows (p : Task) (used may left : ℕ) (l : List ℕ) : Type 0 where
 abbrev pub Enters : ℕ → ℕ → ℕ → ℕ → Type 0
 Enters used may left row = Has used row ⊎ (Has may row × (0 < left))
 
-abbrev pub usedAfter : ℕ → ℕ → ℕ
-usedAfter used row = cond (has used row) used (with used row)
-
 abbrev pub leftAfter : ℕ → ℕ → ℕ → ℕ
 leftAfter used left row = cond (has used row) left (left - 1)
 
 abbrev pub Affords : Task → ℕ → ℕ → ℕ → List ℕ → Type 0
 Affords p used may left [] = Unit {0}
-Affords p used may left (k ∷ l) = Enters used may left (rowOf p k) × Affords p (usedAfter used (rowOf p k)) may (leftAfter used left (rowOf p k)) l
+Affords p used may left (k ∷ l) = Enters used may left (rowOf p k) × Affords p (with used (rowOf p k)) may (leftAfter used left (rowOf p k)) l
 
 -- However many were left: each of the targets lies in a row in use or in one that may be taken.
 abbrev pub Open : Task → ℕ → ℕ → List ℕ → Type 0
