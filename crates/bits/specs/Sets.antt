@@ -1,6 +1,6 @@
 -- A number as a set: its members are the places of the bits that are 1.
 use mathlib.Core.Path.{_≡_}
-use mathlib.Core.Bool.{Bool, true}
+use mathlib.Core.Bool.{Bool, true, false}
 use mathlib.Core.Logic.{_↔_}
 use Prim.Native.Nat.{ℕ, _/_, _%_, _^_}
 use lib.Bits.{bitOr}
@@ -20,3 +20,11 @@ with set x = bitOr set (2 ^ x)
 -- the answer is true exactly where every member of the first is one of the second
 pub record Within (a b : ℕ) (answer : Bool) : Type 0 where
   pub exactly : (answer ≡ true) ↔ ((x : ℕ) → Has a x → Has b x)
+
+-- the answer is true exactly where some number is a member of both
+pub record Meets (a b : ℕ) (answer : Bool) : Type 0 where
+  pub exactly : (answer ≡ false) ↔ ((x : ℕ) → Has a x → Has b x → ⊥)
+
+-- the members below 32
+unfoldable pub below32 : ℕ → ℕ
+below32 set = set % 4294967296

@@ -1,7 +1,8 @@
 // Sets of the numbers 0 to 63 in one word, a bit for each.
 ghost use mathlib.Core.Path.{_≡_};
 ghost use Prim.Native.Nat.{_<_};
-ghost use Rattle.bits.specs.Sets.{with, has, Within};
+ghost use lib.Bits.{bitOr};
+ghost use Rattle.bits.specs.Sets.{with, has, below32, Within, Meets};
 
 // The set with one number more.
 pub fn add(set: u64, x: u32) -> u64
@@ -24,4 +25,25 @@ pub fn holds(set: u64, x: u32) -> bool
     ensures { λ r. ⌜ r ≡ has set x ⌝ }
 {
     (set >> x) % 2 == 1
+}
+
+// The members of either set.
+pub fn join(a: u64, b: u64) -> u64
+    ensures { λ r. ⌜ r ≡ bitOr a b ⌝ }
+{
+    a | b
+}
+
+// Whether the sets have a member in common.
+pub fn meets(a: u64, b: u64) -> bool
+    ensures { λ r. ⌜ Meets a b r ⌝ }
+{
+    a & b != 0
+}
+
+// The members below 32.
+pub fn low(set: u64) -> u64
+    ensures { λ r. ⌜ r ≡ below32 set ⌝ }
+{
+    set % 4294967296
 }
