@@ -3,3 +3,8 @@ pub mod Lists
 pub mod Moved
 pub mod Works
 pub mod Rewritten
+pub mod Can
+pub mod Marked
+pub mod Going
+pub mod Frame
+pub mod Fewest
