@@ -16,6 +16,9 @@ pub record Can (s : Summaries) (q : Rule ℕ) (rows : Rows) (p : List ℕ) (from
   pub few : length more ≤ b
   pub works : WorksOn s q rows (In (p ++ more))
 
+abbrev pub Any : ℕ → Type 0
+Any u = Unit {0}
+
 abbrev pub Either : (ℕ → Type 0) → List ℕ → ℕ → Type 0
 Either used more u = used u ⊎ (u ∈ more)
 

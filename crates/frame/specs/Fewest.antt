@@ -16,15 +16,9 @@ use Rattle.theory.specs.Normal.{shorten}
 use Rattle.frame.specs.Numbered.{Rows, rowAt, Numbers, In, WorksOn}
 use Rattle.frame.specs.Works.{works-more}
 use Rattle.frame.specs.Rewritten.{works-rewrites, rewrites-numbers}
-use Rattle.frame.specs.Can.{Can, CanBy}
+use Rattle.frame.specs.Can.{Any, Can}
 use Rattle.frame.specs.Going.{AtLeast, Going}
 use Rattle.frame.specs.Frame.{going-works}
-
-abbrev pub Any : ℕ → Type 0
-Any u = Unit {0}
-
-abbrev pub None : ℕ → Type 0
-None u = ⊥
 
 module _ (s : Summaries) (q : Rule ℕ) (rows : Rows) where
   pub at-least-start : AtLeast s q rows 0

@@ -4,7 +4,10 @@ pub mod Moved
 pub mod Works
 pub mod Rewritten
 pub mod Can
+pub mod Sets
 pub mod Marked
 pub mod Going
 pub mod Frame
 pub mod Fewest
+pub mod Dominates
+pub mod Dominance
