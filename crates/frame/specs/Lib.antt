@@ -11,3 +11,8 @@ pub mod Frame
 pub mod Fewest
 pub mod Dominates
 pub mod Dominance
+pub mod Placed
+pub mod Targets
+pub mod Placing
+pub mod Supported
+pub mod Viable
