@@ -16,23 +16,16 @@ use Rattle.words.specs.Lists.{passing, passing-in, passing-out}
 use Rattle.theory.specs.Carry.{subgoal-same}
 use Rattle.theory.specs.Expand.{extended}
 use Rattle.frame.specs.Numbered.{Rows, rowAt, Lands, WorksOn}
+use Rattle.frame.specs.Lists.{no-longer}
 use Rattle.frame.specs.Moved.{same-use}
 use Rattle.frame.specs.Works.{moved, works-more}
 use Rattle.frame.specs.Can.{Either, CanBy}
 use Rattle.frame.specs.Sets.{can-more}
 use Rattle.frame.specs.Dominates.{Dominates}
 
--- a list without a number is no longer
+-- a list without a number
 abbrev other : ℕ → ℕ → Bool
 other r u = not (eqb u r)
-
-no-longer : {A : Type 0} (p : A → Bool) (l : List A) → length (passing p l) ≤ length l
-no-longer p [] = omega arith
-no-longer {A} p (a ∷ l) = go (p a) (no-longer p l)
-  where
-    go : (b : Bool) → length (passing p l) ≤ length l → length (cond b (a ∷ passing p l) (passing p l)) ≤ suc (length l)
-    go true h = omega arith
-    go false h = omega arith
 
 module _ (s : Summaries) (q : Rule ℕ) (rows : Rows) (d r : ℕ) (dom : Dominates s rows d r) (there : d < length rows) where
   -- Row r's own variables go where row d stands for them, those of other rows stay.

@@ -16,3 +16,4 @@ pub mod Targets
 pub mod Placing
 pub mod Supported
 pub mod Viable
+pub mod Bound

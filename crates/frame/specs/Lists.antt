@@ -1,15 +1,16 @@
--- What stands at a number of a list, and the number at which an element first stands.
+-- What stands at a number of a list, the number at which an element first stands, and how many elements pass a test.
 use mathlib.Core.Path.{_≡_, refl, sym, ap, _∙_, subst}
-use mathlib.Core.Bool.{Bool, true, false, cond}
+use mathlib.Core.Bool.{Bool, true, false, cond, not}
 use mathlib.Core.Option.{some, Option·none-ne-some, Option·some-injective}
 use mathlib.Core.List.{List, [], _∷_, map, List·Memᴰ·head, List·Memᴰ·tail, List·Memᴰ·not-nil}
-use Prim.Native.Nat.{ℕ, zero, suc, _<_}
+use Prim.Native.Nat.{ℕ, zero, suc, _+_, _≤_, _<_}
 use native.Mathlib.Omega.{arith}
 use borrow.Author.Tests.{eqb-true, eqb-false}
 use lib.Dec.{eqb}
 use lib.ListN.{length, getD}
 use Rattle.words.specs.Words.{_∈_}
 use Rattle.words.specs.Summaries.{place}
+use Rattle.words.specs.Lists.{passing}
 
 module _ {A : Type 0} (d : A) where
   pub getD-place : (l : List A) (n : ℕ) → n < length l → place l (suc n) ≡ some (getD l n d)
@@ -44,3 +45,32 @@ index-place {B} f u (n ∷ ns) m = go (eqb n u) refl m (index-place f u ns)
     go true e m rest = ap (λ z. some (f z)) (eqb-true n u e)
     go false e (List·Memᴰ·head p) rest = absurd (eqb-false n u e (sym p))
     go false e (List·Memᴰ·tail i) rest = rest i
+
+-- Those that pass a test, counted.
+pub no-longer : {A : Type 0} (p : A → Bool) (l : List A) → length (passing p l) ≤ length l
+no-longer p [] = omega arith
+no-longer {A} p (a ∷ l) = go (p a) (no-longer p l)
+  where
+    go : (b : Bool) → length (passing p l) ≤ length l → length (cond b (a ∷ passing p l) (passing p l)) ≤ suc (length l)
+    go true h = omega arith
+    go false h = omega arith
+
+pub passing-split : {A : Type 0} (p : A → Bool) (l : List A) → length l ≡ length (passing p l) + length (passing (λ a. not (p a)) l)
+passing-split p [] = refl
+passing-split {A} p (a ∷ l) = go (p a) (passing-split p l)
+  where
+    go : (b : Bool) → length l ≡ length (passing p l) + length (passing (λ a. not (p a)) l)
+        → suc (length l) ≡ length (cond b (a ∷ passing p l) (passing p l)) + length (cond (not b) (a ∷ passing (λ a. not (p a)) l) (passing (λ a. not (p a)) l))
+    go true e = omega arith
+    go false e = omega arith
+
+-- of a part no more pass
+pub passing-part : {A : Type 0} (p r : A → Bool) (l : List A) → length (passing p (passing r l)) ≤ length (passing p l)
+passing-part p r [] = omega arith
+passing-part {A} p r (a ∷ l) = go (r a) (p a) refl (passing-part p r l)
+  where
+    go : (b c : Bool) → p a ≡ c → length (passing p (passing r l)) ≤ length (passing p l) → length (passing p (cond b (a ∷ passing r l) (passing r l))) ≤ length (cond c (a ∷ passing p l) (passing p l))
+    go true true e h = rw e (omega arith)
+    go true false e h = rw e h
+    go false true e h = omega arith
+    go false false e h = h
