@@ -1,31 +1,26 @@
 -- A row that another dominates can be left out.
 use mathlib.Core.Path.{_≡_, refl, sym, ap, _∙_, subst}
 use mathlib.Core.Logic.{_⊎_, inl, inr, ⊎-elim, _↔_}
-use mathlib.Core.Bool.{Bool, true, false, cond, not}
-use mathlib.Core.List.{List, [], _∷_, map, Memᴰ·cast, Memᴰ·map, Memᴰ·of-map}
-use Prim.Native.Nat.{ℕ, suc, _≤_, _<_}
+use mathlib.Core.Bool.{Bool, true, false, cond}
+use mathlib.Core.List.{map, Memᴰ·cast, Memᴰ·map, Memᴰ·of-map}
+use Prim.Native.Nat.{ℕ, _<_}
 use native.Mathlib.Omega.{arith}
 use native.Mathlib.Decide.{ℕ-discrete}
 use borrow.Author.Tests.{eq-eqb, ne-eqb}
-use lib.Dec.{T, eqb, eqb→eq, not-T, T-not}
+use lib.Dec.{eqb, eqb→eq}
 use lib.ListN.{length, length-map}
 use Rattle.words.specs.Words.{_∈_, Term, var, con, Subgoal, Rule, becomes, each}
 use Rattle.words.specs.Summaries.{Summaries, Own, old, fresh, kept, inPlace}
 use Rattle.words.specs.Tests.{passes, fails, any, any-sound, any-complete}
-use Rattle.words.specs.Lists.{passing, passing-in, passing-out}
 use Rattle.theory.specs.Carry.{subgoal-same}
 use Rattle.theory.specs.Expand.{extended}
 use Rattle.frame.specs.Numbered.{Rows, rowAt, Lands, WorksOn}
-use Rattle.frame.specs.Lists.{no-longer}
+use Rattle.frame.specs.Lists.{without, without-in, without-out, without-few}
 use Rattle.frame.specs.Moved.{same-use}
 use Rattle.frame.specs.Works.{moved, works-more}
 use Rattle.frame.specs.Can.{Either, CanBy}
 use Rattle.frame.specs.Sets.{can-more}
 use Rattle.frame.specs.Dominates.{Dominates}
-
--- a list without a number
-abbrev other : ℕ → ℕ → Bool
-other r u = not (eqb u r)
 
 module _ (s : Summaries) (q : Rule ℕ) (rows : Rows) (d r : ℕ) (dom : Dominates s rows d r) (there : d < length rows) where
   -- Row r's own variables go where row d stands for them, those of other rows stay.
@@ -50,10 +45,10 @@ module _ (s : Summaries) (q : Rule ℕ) (rows : Rows) (d r : ℕ) (dom : Dominat
     -- The dominating row is used: the other is left out.
     beside-used : used d → CanBy s q rows used may b → CanBy s q rows used may′ b
     beside-used has o = record {
-      more = passing (other r) (o .more);
-      among = λ u i. let w = passing-out (other r) (o .more) i in let k = o .among u (w .0) in (k .0, rest u (k .0) (λ e. T-not (eqb u r) (w .1) (rw (eq-eqb u r e) tt)) (k .1));
-      few = omega (arith, o .few, no-longer (other r) (o .more));
-      works = works-without (inl has) (λ u h n. ⊎-elim inl (λ i. inr (passing-in (other r) (o .more) i (not-T (eqb u r) (λ t. n (eqb→eq u r t)))))) (o .works);
+      more = without r (o .more);
+      among = λ u i. let w = without-out r (o .more) u i in let k = o .among u (w .0) in (k .0, rest u (k .0) (w .1) (k .1));
+      few = omega (arith, o .few, without-few r (o .more));
+      works = works-without (inl has) (λ u h n. ⊎-elim inl (λ i. inr (without-in r (o .more) u i n))) (o .works);
     }
 
     -- It may be used: it takes the other's place.

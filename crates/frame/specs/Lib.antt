@@ -17,3 +17,5 @@ pub mod Placing
 pub mod Supported
 pub mod Viable
 pub mod Bound
+pub mod Paid
+pub mod Paying

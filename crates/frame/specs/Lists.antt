@@ -5,12 +5,12 @@ use mathlib.Core.Option.{some, Option·none-ne-some, Option·some-injective}
 use mathlib.Core.List.{List, [], _∷_, map, List·Memᴰ·head, List·Memᴰ·tail, List·Memᴰ·not-nil}
 use Prim.Native.Nat.{ℕ, zero, suc, _+_, _≤_, _<_}
 use native.Mathlib.Omega.{arith}
-use borrow.Author.Tests.{eqb-true, eqb-false}
-use lib.Dec.{eqb}
+use borrow.Author.Tests.{eqb-true, eqb-false, eq-eqb}
+use lib.Dec.{T, eqb, eqb→eq, not-T, T-not}
 use lib.ListN.{length, getD}
 use Rattle.words.specs.Words.{_∈_}
 use Rattle.words.specs.Summaries.{place}
-use Rattle.words.specs.Lists.{passing}
+use Rattle.words.specs.Lists.{passing, passing-in, passing-out}
 
 module _ {A : Type 0} (d : A) where
   pub getD-place : (l : List A) (n : ℕ) → n < length l → place l (suc n) ≡ some (getD l n d)
@@ -32,6 +32,18 @@ module _ {A : Type 0} (d : A) where
   in-getD (b ∷ l) (List·Memᴰ·head e) = (0, omega arith, sym e)
   in-getD (b ∷ l) (List·Memᴰ·tail m) = let w = in-getD l m in (suc (w .0), omega arith, w .2)
 
+-- One choice for each of the numbers below n, in a list.
+pub choices : (P : ℕ → ℕ → Type 0) (n : ℕ) → ((i : ℕ) → i < n → (k : ℕ) × P i k) → (ks : List ℕ) × (length ks ≡ n) × ((i : ℕ) → i < n → P i (getD ks i 0))
+choices P zero f = ([], refl, λ i h. absurd (omega arith))
+choices P (suc n) f = go (f 0 (omega arith)) (choices (λ i. P (suc i)) n (λ i h. f (suc i) (omega arith)))
+  where
+    go : (k : ℕ) × P 0 k → (ks : List ℕ) × (length ks ≡ n) × ((i : ℕ) → i < n → P (suc i) (getD ks i 0)) → (ks : List ℕ) × (length ks ≡ suc n) × ((i : ℕ) → i < suc n → P i (getD ks i 0))
+    go k rest = (k .0 ∷ rest .0, ap suc (rest .1), at)
+      where
+        at : (i : ℕ) → i < suc n → P i (getD (k .0 ∷ rest .0) i 0)
+        at zero h = k .1
+        at (suc i) h = rest .2 i (omega arith)
+
 -- where a number first stands
 abbrev pub index : ℕ → List ℕ → ℕ
 index u [] = 0
@@ -47,14 +59,6 @@ index-place {B} f u (n ∷ ns) m = go (eqb n u) refl m (index-place f u ns)
     go false e (List·Memᴰ·tail i) rest = rest i
 
 -- Those that pass a test, counted.
-pub no-longer : {A : Type 0} (p : A → Bool) (l : List A) → length (passing p l) ≤ length l
-no-longer p [] = omega arith
-no-longer {A} p (a ∷ l) = go (p a) (no-longer p l)
-  where
-    go : (b : Bool) → length (passing p l) ≤ length l → length (cond b (a ∷ passing p l) (passing p l)) ≤ suc (length l)
-    go true h = omega arith
-    go false h = omega arith
-
 pub passing-split : {A : Type 0} (p : A → Bool) (l : List A) → length l ≡ length (passing p l) + length (passing (λ a. not (p a)) l)
 passing-split p [] = refl
 passing-split {A} p (a ∷ l) = go (p a) (passing-split p l)
@@ -74,3 +78,27 @@ passing-part {A} p r (a ∷ l) = go (r a) (p a) refl (passing-part p r l)
     go true false e h = rw e h
     go false true e h = omega arith
     go false false e h = h
+
+-- a list without a number
+abbrev other : ℕ → ℕ → Bool
+other r u = not (eqb u r)
+
+abbrev pub without : ℕ → List ℕ → List ℕ
+without r l = passing (other r) l
+
+module _ (r : ℕ) (l : List ℕ) where
+  pub without-in : (u : ℕ) → u ∈ l → (u ≡ r → ⊥) → u ∈ without r l
+  without-in u i n = passing-in (other r) l i (not-T (eqb u r) (λ t. n (eqb→eq u r t)))
+
+  pub without-out : (u : ℕ) → u ∈ without r l → (u ∈ l) × (u ≡ r → ⊥)
+  without-out u i = let w = passing-out (other r) l i in (w .0, λ e. T-not (eqb u r) (w .1) (rw (eq-eqb u r e) tt))
+
+  pub without-few : length (without r l) ≤ length l
+  without-few = omega (arith, passing-split (other r) l)
+
+  pub without-fewer : r ∈ l → length (without r l) < length l
+  without-fewer i = omega (arith, passing-split (other r) l, some (passing (λ u. not (other r u)) l) (passing-in (λ u. not (other r u)) l i (rw (eq-eqb r r refl) tt)))
+    where
+      some : (k : List ℕ) → r ∈ k → 0 < length k
+      some [] j = absurd (List·Memᴰ·not-nil j)
+      some (n ∷ k) j = omega arith
