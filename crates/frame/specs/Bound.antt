@@ -7,14 +7,15 @@ use Prim.Native.Nat.{ℕ, _*_, _≤_, _<_}
 use native.Mathlib.Omega.{arith}
 use native.Mathlib.Nat.{suc-mul, mul-le-mul-right}
 use lib.Dec.{T, T-not}
-use lib.ListN.{length}
+use lib.ListN.{length, getD}
 use Rattle.words.specs.Words.{_∈_, Term, Rule}
 use Rattle.words.specs.Summaries.{Summaries, Own}
 use Rattle.words.specs.Lists.{passing, passing-out}
 use Rattle.frame.specs.Numbered.{Rows}
-use Rattle.frame.specs.Lists.{passing-split, passing-part}
+use Rattle.frame.specs.Lists.{getD-in, passing-split, passing-part}
 use Rattle.frame.specs.Can.{Either}
-use Rattle.frame.specs.Placed.{targets, rowOf, SendsTo, KeepsHead, Placed}
+use Rattle.frame.specs.Placed.{targets, rowOf, Placed}
+use Rattle.frame.specs.Supported.{SendsTo}
 
 -- Subgoals by any names; which of them a row can serve.
 module _ {G : Type 0} (serves : ℕ → G → Bool) (most : ℕ) where
@@ -56,12 +57,18 @@ module _ {G : Type 0} (serves : ℕ → G → Bool) (most : ℕ) where
 -- For the question's subgoals, or some of them, at the start of the search.
 pub too-many : (s : Summaries) (q : Rule ℕ) (rows : Rows) {Pair : ℕ → ℕ → Type 0} {used may : ℕ → Type 0} {b : ℕ} (serves : ℕ → ℕ → Bool) (most : ℕ) (unserved : ℕ → Bool) (gs : List ℕ)
     → ((i : ℕ) → i ∈ gs → i < length (q .body))
-    → ((i k : ℕ) → i < length (q .body) → k < length (targets s rows) → Pair i k → (value : ℕ → Term (Own ℕ)) → KeepsHead q value → SendsTo s q rows value i k → T (serves (rowOf s rows k) i))
+    → ((i k : ℕ) → i < length (q .body) → k < length (targets s rows) → Pair i k → (value : ℕ → Term (Own ℕ)) → SendsTo s q rows value i k → T (serves (rowOf s rows k) i))
     → ((i : ℕ) → i ∈ gs → T (unserved i) → (u : ℕ) → used u → T (serves u i) → ⊥)
-    → ((u : ℕ) → u < length rows → may u → length (passing (serves u) gs) ≤ most)
+    → ((u : ℕ) → may u → length (passing (serves u) gs) ≤ most)
     → b * most < length (passing unserved gs) → Placed s q rows Pair used may b → ⊥
 too-many s q rows {Pair} {used} {may} {b} serves most unserved gs within complete none at-most many p =
-    omega (arith, bounded serves most used (p .more) b unserved gs (p .few) row none (λ u i. let w = p .among u i in at-most u (w .0) (w .1)))
+    omega (arith, bounded serves most used (p .taken) b unserved gs (p .few) row none (λ u i. at-most u (p .allowed u i)))
   where
-    row : (i : ℕ) → i ∈ gs → (u : ℕ) × Either used (p .more) u × T (serves u i)
-    row i m = let t = p .sent i (within i m) in (rowOf s rows (t .at), t .chosen, complete i (t .at) (within i m) (t .within) (t .pair) (p .value) (p .gives) (t .same))
+    row : (i : ℕ) → i ∈ gs → (u : ℕ) × Either used (p .taken) u × T (serves u i)
+    row i m =
+        let h = within i m in
+        let k = getD (p .ks) i 0 in (
+          rowOf s rows k,
+          p .each k (getD-in 0 (p .ks) i (omega (arith, p .maps .long))),
+          complete i k h (p .maps .within i h) (p .pairs i h) (p .maps .value) record { gives = p .maps .gives; same = p .maps .same i h },
+        )

@@ -11,11 +11,10 @@ pub mod Frame
 pub mod Fewest
 pub mod Dominates
 pub mod Dominance
+pub mod MapsAt
 pub mod Placed
 pub mod Targets
 pub mod Placing
 pub mod Supported
 pub mod Viable
 pub mod Bound
-pub mod Paid
-pub mod Paying

@@ -11,38 +11,32 @@ use Rattle.words.specs.Summaries.{Summaries, Own, old, fresh, inPlace}
 use Rattle.theory.specs.Expand.{extended}
 use Rattle.frame.specs.Numbered.{Rows, rowAt, Lands}
 use Rattle.frame.specs.Moved.{same-use}
-use Rattle.frame.specs.Placed.{targets, rowOf, goalAt, targetAt, SendsTo, KeepsHead, Placed}
-use Rattle.frame.specs.Placing.{at-lands, placed-more}
-use Rattle.frame.specs.Supported.{Together, Unsupported}
-
-abbrev pub argument : {X : Type 0} → Subgoal (Term X) → ℕ → Term X
-argument g a = getD (g .terms) a (con 0)
+use Rattle.frame.specs.Placed.{targets, rowOf, Placed}
+use Rattle.frame.specs.Placing.{at-lands, placed-pairs}
+use Rattle.frame.specs.Supported.{goalAt, targetAt, argument, SendsTo, Together, Unsupported}
 
 module _ (s : Summaries) (q : Rule ℕ) (rows : Rows) where
+  placed-sends : {Pair : ℕ → ℕ → Type 0} {used may : ℕ → Type 0} {b : ℕ} (p : Placed s q rows Pair used may b) (i : ℕ) → i < length (q .body) → SendsTo s q rows (p .maps .value) i (getD (p .ks) i 0)
+  placed-sends p i h = record { gives = p .maps .gives; same = p .maps .same i h }
+
   -- One pair removed.
   pub drop-unsupported : {Pair Pair′ : ℕ → ℕ → Type 0} {used may : ℕ → Type 0} {b : ℕ} (i k : ℕ) → Unsupported s q rows Pair i k
       → ((j l : ℕ) → Pair′ j l → Pair j l) → ((j l : ℕ) → ((j ≡ i) × (l ≡ k) → ⊥) → Pair j l → Pair′ j l)
       → Placed s q rows Pair used may b ↔ Placed s q rows Pair′ used may b
-  drop-unsupported {Pair} {Pair′} {used} {may} {b} i k none less rest = (without, placed-more s q rows (λ u h. h) (λ u h m. m) (omega arith) (λ j l hj hl h p. less j l p))
+  drop-unsupported {Pair} {Pair′} {used} {may} {b} i k none less rest = (without, placed-pairs s q rows (λ j l hj hl h p. less j l p))
     where
       without : Placed s q rows Pair used may b → Placed s q rows Pair′ used may b
-      without p = record {
-        value = p .value;
-        gives = p .gives;
-        more = p .more;
-        among = p .among;
-        few = p .few;
-        sent = λ j h. let t = p .sent j h in record { at = t .at; within = t .within; pair = rest j (t .at) (λ e. apart j h e) (t .pair); chosen = t .chosen; same = t .same };
-      }
+      without p = record { ks = p .ks; maps = p .maps; pairs = λ j h. rest j (getD (p .ks) j 0) (apart j h) (p .pairs j h); taken = p .taken; few = p .few; allowed = p .allowed; each = p .each }
         where
-          apart : (j : ℕ) (h : j < length (q .body)) → (j ≡ i) × (p .sent j h .at ≡ k) → ⊥
+          apart : (j : ℕ) → j < length (q .body) → (j ≡ i) × (getD (p .ks) j 0 ≡ k) → ⊥
           apart j h e =
-              let t = p .sent (none .by) (none .within) in
-              none .none (t .at) (t .within) (t .pair) record { value = p .value; gives = p .gives; one = rw (sym (e .0), sym (e .1)) (p .sent j h .same); other = t .same }
+              let l = getD (p .ks) (none .by) 0 in
+              none .none l (p .maps .within (none .by) (none .within)) (p .pairs (none .by) (none .within))
+              record { value = p .maps .value; one = rw (sym (e .0), sym (e .1)) (placed-sends p j h); other = placed-sends p (none .by) (none .within) }
 
   -- What the argument of a target is, where values send a subgoal to it.
   pub sends-argument : (value : ℕ → Term (Own ℕ)) (i k a : ℕ) → SendsTo s q rows value i k → argument (targetAt s rows k) a ≡ becomes con value (argument (goalAt q i) a)
-  sends-argument value i k a e = ap (λ g. argument g a) (sym e) ∙ List·getD-map (becomes con value) (goalAt q i .terms) a (con 0)
+  sends-argument value i k a e = ap (λ g. argument g a) (sym (e .same)) ∙ List·getD-map (becomes con value) (goalAt q i .terms) a (con 0)
 
   -- A variable that two subgoals share becomes the same term in both.
   pub together-same : {i k j l : ℕ} → Together s q rows i k j l → (x a c : ℕ) → argument (goalAt q i) a ≡ var x → argument (goalAt q j) c ≡ var x
@@ -51,8 +45,8 @@ module _ (s : Summaries) (q : Rule ℕ) (rows : Rows) where
       sends-argument (t .value) i k a (t .one) ∙ ap (becomes con (t .value)) (e ∙ sym f) ∙ sym (sends-argument (t .value) j l c (t .other))
 
   -- A pair that no values allow.
-  pub impossible : {Pair : ℕ → ℕ → Type 0} (i k : ℕ) → i < length (q .body) → ((value : ℕ → Term (Own ℕ)) → KeepsHead q value → SendsTo s q rows value i k → ⊥) → Unsupported s q rows Pair i k
-  impossible i k h never = record { by = i; within = h; none = λ l hl p t. never (t .value) (t .gives) (t .one) }
+  pub impossible : {Pair : ℕ → ℕ → Type 0} (i k : ℕ) → i < length (q .body) → ((value : ℕ → Term (Own ℕ)) → SendsTo s q rows value i k → ⊥) → Unsupported s q rows Pair i k
+  impossible i k h never = record { by = i; within = h; none = λ l hl p t. never (t .value) (t .one) }
 
   -- A shared variable that no allowed pair of the other subgoal sends to the same term.
   pub unshared : {Pair : ℕ → ℕ → Type 0} (i k j x a c : ℕ) → j < length (q .body) → argument (goalAt q i) a ≡ var x → argument (goalAt q j) c ≡ var x
