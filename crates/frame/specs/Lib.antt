@@ -18,3 +18,5 @@ pub mod Placing
 pub mod Supported
 pub mod Viable
 pub mod Bound
+pub mod Mapped
+pub mod FirstAt

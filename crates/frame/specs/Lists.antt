@@ -10,6 +10,7 @@ use lib.Dec.{T, eqb, eqb→eq, not-T, T-not}
 use lib.ListN.{length, getD}
 use Rattle.words.specs.Words.{_∈_}
 use Rattle.words.specs.Summaries.{place}
+use Rattle.words.specs.Rising.{Rising}
 use Rattle.words.specs.Lists.{passing, passing-in, passing-out}
 
 module _ {A : Type 0} (d : A) where
@@ -31,6 +32,19 @@ module _ {A : Type 0} (d : A) where
   pub in-getD : {a : A} (l : List A) → a ∈ l → (n : ℕ) × (n < length l) × (getD l n d ≡ a)
   in-getD (b ∷ l) (List·Memᴰ·head e) = (0, omega arith, sym e)
   in-getD (b ∷ l) (List·Memᴰ·tail m) = let w = in-getD l m in (suc (w .0), omega arith, w .2)
+
+-- under a function, whatever stands past the end
+pub getD-map : {A B : Type 0} (f : A → B) (d : A) (e : B) (l : List A) (n : ℕ) → n < length l → getD (map f l) n e ≡ f (getD l n d)
+getD-map f d e [] n h = absurd (omega arith)
+getD-map f d e (a ∷ l) zero h = refl
+getD-map f d e (a ∷ l) (suc n) h = getD-map f d e l n (omega arith)
+
+pub rising-getD : {A : Type 0} (before : A → A → Type 0) (d : A) (l : List A) → Rising before l → (u v : ℕ) → u < v → v < length l → before (getD l u d) (getD l v d)
+rising-getD before d [] r u v h k = absurd (omega arith)
+rising-getD before d (a ∷ l) r zero zero h k = absurd (omega arith)
+rising-getD before d (a ∷ l) r zero (suc v) h k = r .0 (getD l v d) (getD-in d l v (omega arith))
+rising-getD before d (a ∷ l) r (suc u) zero h k = absurd (omega arith)
+rising-getD before d (a ∷ l) r (suc u) (suc v) h k = rising-getD before d l (r .1) u v (omega arith) (omega arith)
 
 -- One choice for each of the numbers below n, in a list.
 pub choices : (P : ℕ → ℕ → Type 0) (n : ℕ) → ((i : ℕ) → i < n → (k : ℕ) × P i k) → (ks : List ℕ) × (length ks ≡ n) × ((i : ℕ) → i < n → P i (getD ks i 0))

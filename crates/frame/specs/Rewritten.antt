@@ -2,9 +2,8 @@
 use mathlib.Core.Path.{_≡_, refl, sym, ap, ap₂, subst}
 use mathlib.Core.Logic.{_⊎_, inl, inr, _↔_}
 use mathlib.Core.List.{List, [], _∷_, map, List·Memᴰ·head, List·Memᴰ·tail, Memᴰ·map, Memᴰ·of-map, Memᴰ·cast, List·Memᴰ·not-nil}
-use Prim.Native.Nat.{ℕ, zero, suc, _<_}
-use native.Mathlib.Omega.{arith}
-use lib.ListN.{length, getD}
+use Prim.Native.Nat.{ℕ, _<_}
+use lib.ListN.{length}
 use Rattle.words.specs.Words.{_∈_, Term, Subgoal, Rule}
 use Rattle.words.specs.Summaries.{Summaries, SummaryRow}
 use Rattle.words.specs.Order.{ListBefore, RowBefore}
@@ -15,15 +14,8 @@ use Rattle.words.specs.Rising.{Rising, rising-map, rising-ascending, ascending-
 use Rattle.words.specs.Enumerate.{Enumerates}
 use Rattle.theory.specs.ListsOfRows.{AllRows, rows-back}
 use Rattle.frame.specs.Numbered.{Rows, nothing, rowAt, rowsAt, Numbers, In, WorksOn}
-use Rattle.frame.specs.Lists.{getD-in, in-getD}
+use Rattle.frame.specs.Lists.{getD-in, in-getD, rising-getD}
 use Rattle.frame.specs.Works.{works-maps, maps-works}
-
-rising-getD : {A : Type 0} (before : A → A → Type 0) (d : A) (l : List A) → Rising before l → (u v : ℕ) → u < v → v < length l → before (getD l u d) (getD l v d)
-rising-getD before d [] r u v h k = absurd (omega arith)
-rising-getD before d (a ∷ l) r zero zero h k = absurd (omega arith)
-rising-getD before d (a ∷ l) r zero (suc v) h k = r .0 (getD l v d) (getD-in d l v (omega arith))
-rising-getD before d (a ∷ l) r (suc u) zero h k = absurd (omega arith)
-rising-getD before d (a ∷ l) r (suc u) (suc v) h k = rising-getD before d l (r .1) u v (omega arith) (omega arith)
 
 -- Rows that ascend with their numbers.
 module _ (rows : Rows) (rises : Rising RowBefore rows) where
