@@ -8,19 +8,31 @@ use native.Mathlib.Omega.{arith}
 use native.Mathlib.Decide.{ℕ-discrete}
 use borrow.Author.Tests.{eq-eqb, ne-eqb}
 use lib.Dec.{eqb, eqb→eq}
-use lib.ListN.{length, length-map}
+use lib.ListN.{length, getD, length-map}
 use Rattle.words.specs.Words.{_∈_, Term, var, con, Subgoal, Rule, becomes, each}
 use Rattle.words.specs.Summaries.{Summaries, Own, old, fresh, kept, inPlace}
 use Rattle.words.specs.Tests.{passes, fails, any, any-sound, any-complete}
 use Rattle.theory.specs.Carry.{subgoal-same}
 use Rattle.theory.specs.Expand.{extended}
-use Rattle.frame.specs.Numbered.{Rows, rowAt, Lands, WorksOn}
-use Rattle.frame.specs.Lists.{without, without-in, without-out, without-few}
+use Rattle.frame.specs.Numbered.{Rows, nothing, rowAt, Lands, WorksOn}
+use Rattle.frame.specs.Lists.{getD-in, in-getD, without, without-in, without-out, without-few}
 use Rattle.frame.specs.Moved.{same-use}
 use Rattle.frame.specs.Works.{moved, works-more}
 use Rattle.frame.specs.Can.{Either, CanBy}
 use Rattle.frame.specs.Sets.{can-more}
 use Rattle.frame.specs.Dominates.{Dominates}
+
+-- Dominance by places in the two uses.
+pub dominates-at : (s : Summaries) (rows : Rows) (d r : ℕ) (value : ℕ → Term (Own ℕ))
+    → ((i : ℕ) → i < length (inPlace s r (rowAt rows r)) → (k : ℕ) × (k < length (inPlace s d (rowAt rows d)))
+    × (each (becomes con (extended kept (λ u. value))) (getD (inPlace s r (rowAt rows r)) i nothing) ≡ getD (inPlace s d (rowAt rows d)) k nothing))
+    → Dominates s rows d r
+dominates-at s rows d r value h = record {
+  value = value;
+  holds = λ c m. let i = in-getD nothing (inPlace s r (rowAt rows r)) m in
+      let k = h (i .0) (i .1) in
+      Memᴰ·cast (ap (each (becomes con (extended kept (λ u. value)))) (sym (i .2)) ∙ k .2) (getD-in nothing (inPlace s d (rowAt rows d)) (k .0) (k .1));
+}
 
 module _ (s : Summaries) (q : Rule ℕ) (rows : Rows) (d r : ℕ) (dom : Dominates s rows d r) (there : d < length rows) where
   -- Row r's own variables go where row d stands for them, those of other rows stay.

@@ -33,12 +33,15 @@ module _ (s : Summaries) (q : Rule ℕ) (rows : Rows) where
       go (no h) l = absurd (cannot record { more = ns; rising = n .rising; later = λ u i. (omega arith, n .within u i); few = omega arith; works = w })
 
   module _ (all : Enumerates (SummaryRow s q) RowBefore rows) where
-    -- Where a list works, no more rows are needed than the question has subgoals. So no list works if more are needed.
+    -- Where a list works, no more rows are needed than the question has subgoals. So none works if more are needed.
     pub at-least-few : (k : ℕ) → AtLeast s q rows k → (l : Rows) → Rewrites s q l → k ≤ length (q .body)
     at-least-few k least l r =
         let o = shorten s q l r .ordered in
         let w = rewrites-numbers s q rows all (o .list) (o .rewrites) in
         omega (arith, o .few, least (w .0) (w .1) (w .3), length-map (w .0) (rowAt rows), ap length (w .2))
+
+    pub at-least-none : (k : ℕ) → AtLeast s q rows k → length (q .body) < k → (l : Rows) → Rewrites s q l → ⊥
+    at-least-none k least many l r = omega (arith, at-least-few k least l r)
 
     -- The rows to take are no more than the question's subgoals.
     pub going-few : {p : List ℕ} {from left : ℕ} → Going s q rows p from left → length p + left ≤ length (q .body)

@@ -20,3 +20,6 @@ pub mod Viable
 pub mod Bound
 pub mod Mapped
 pub mod FirstAt
+pub mod Bytes
+pub mod Naming
+pub mod Right

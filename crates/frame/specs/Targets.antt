@@ -15,10 +15,10 @@ use Rattle.frame.specs.Lists.{getD-in, in-getD}
 use Rattle.frame.specs.Placed.{owners}
 
 module _ {A : Type 0} (m : List A) (ls : List (List A)) (v : ℕ) where
-  owners-first : (k : ℕ) → k < length m → getD (owners v (m ∷ ls)) k 0 ≡ v
+  pub owners-first : (k : ℕ) → k < length m → getD (owners v (m ∷ ls)) k 0 ≡ v
   owners-first k h = List·getD-append (replicate (length m) v) (owners (suc v) ls) 0 k (omega (arith, length-replicate (length m) v)) ∙ getD-replicate (length m) k v 0 h
 
-  owners-rest : (k : ℕ) → getD (owners v (m ∷ ls)) (length m + k) 0 ≡ getD (owners (suc v) ls) k 0
+  pub owners-rest : (k : ℕ) → getD (owners v (m ∷ ls)) (length m + k) 0 ≡ getD (owners (suc v) ls) k 0
   owners-rest k = ap (λ n. getD (owners v (m ∷ ls)) (n + k) 0) (sym (length-replicate (length m) v)) ∙ getD-append-add (replicate (length m) v) (owners (suc v) ls) k 0
 
 module _ {A : Type 0} (d : A) where
