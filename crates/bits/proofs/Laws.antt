@@ -5,11 +5,11 @@ use Prim.Native.Nat.{ℕ, zero, suc, _+_, _*_, _/_, _%_, _^_, _-_, _<_, _≤_, m
 use native.Mathlib.Omega.{arith}
 use native.Mathlib.Decide.{decLt}
 use native.Mathlib.Nat.{two-pow-succ, div-eq-of-lt}
-use mathlib.Core.Bool.{true}
+use mathlib.Core.Bool.{Bool, true, false}
 use borrow.Author.Tests.{eqb-true, eq-eqb}
 use lib.Bits.{bitOr, or-step, or-shr, or-comm, or-zero-l, shifted-even}
 use lib.Pow.{shl-shr, shl-exact, shr-shr, shr-le, pow-add, pow-lt}
-use Rattle.bits.specs.Sets.{Has, has, with}
+use Rattle.bits.specs.Sets.{Has, has, with, Within}
 
 pub has-true : (set x : ℕ) → has set x ≡ true → Has set x
 unfolding has Has
@@ -112,3 +112,10 @@ or-within a b h = or-within-below a a b (below a) h
     below : (n : ℕ) → n < 2 ^ n
     below zero = omega arith
     below (suc n) = let p = two-pow-succ n in omega (arith, below n)
+
+-- two answers on whether a set lies within another are the same
+pub within-once : (a b : ℕ) (r s : Bool) → Within a b r → Within a b s → r ≡ s
+within-once a b true true p q = refl
+within-once a b true false p q = sym (q .exactly .1 (p .exactly .0 refl))
+within-once a b false true p q = p .exactly .1 (q .exactly .0 refl)
+within-once a b false false p q = refl

@@ -25,3 +25,4 @@ pub mod RefusedOnce
 pub mod Refused
 pub mod BookSizes
 pub mod SizesReached
+pub mod RulePlaces

@@ -23,7 +23,7 @@ terms-size ts =
     omega arith
 
 module _ (r : Rule ℕ) where
-  rule-parts : length (ruleBytes r) ≡ 2 + 5 * length (r .head) + length (subgoalsBytes (r .body))
+  pub rule-parts : length (ruleBytes r) ≡ 2 + 5 * length (r .head) + length (subgoalsBytes (r .body))
   rule-parts = omega (arith, length-append (termsBytes (r .head)) (subgoalsBytes (r .body)), terms-size (r .head))
 
   -- Any rule with no more than eight terms in a row: the answer is one too, over the summaries in place of the relations.

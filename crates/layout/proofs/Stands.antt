@@ -14,7 +14,7 @@ use Rattle.layout.specs.Contents.{count, entriesIn, offsetAt, lengthAt, 
 use Rattle.layout.proofs.NumberLaws.{value-little}
 use Rattle.layout.proofs.Places.{place-some, place-in, place-drop, place-less}
 use Rattle.layout.proofs.Laid.{laid, contents-end, laid-size}
-use Rattle.layout.proofs.Starts.{startOf, start-next, start-within, start-end, drop-contents, drop-bodies}
+use Rattle.layout.proofs.Starts.{bodyOf, startOf, start-next, start-within, start-end, drop-contents, drop-parts}
 
 -- The numbers of the contents fit their bytes.
 pub record Fitting (n : ℕ) (es : List Entry) : Type 0 where
@@ -30,10 +30,10 @@ module _ (n : ℕ) (es : List Entry) (fits : Fitting n es) where
 
   module _ (i : ℕ) (e : Entry) (stands : place es (suc i) ≡ some e) where
     abbrev start : ℕ
-    start = startOf (contentsEnd n) es i
+    start = startOf bodyOf (contentsEnd n) es i
 
     start-fits : start + length (e .body) ≤ length (laid n es)
-    start-fits = omega (arith, laid-size n es (fits .all), start-within (contentsEnd n) es (suc i), start-next (contentsEnd n) es i e stands)
+    start-fits = omega (arith, laid-size n es (fits .all), start-within bodyOf (contentsEnd n) es (suc i), start-next bodyOf (contentsEnd n) es i e stands)
 
     -- The entry's twelve bytes, and what follows them.
     rest : List ℕ
@@ -64,7 +64,7 @@ module _ (n : ℕ) (es : List Entry) (fits : Fitting n es) where
     from-start : drop start (laid n es) ≡ e .body ++ joined (bodies (drop (suc i) es))
     unfolding laid
     from-start =
-        drop-bodies (little 2 n ++ contentsFrom (contentsEnd n) es) (contentsEnd n) (contents-end n es (fits .all)) es i
+        drop-parts bodyOf (little 2 n ++ contentsFrom (contentsEnd n) es) (contentsEnd n) (contents-end n es (fits .all)) es i
         ∙ ap (λ l. joined (bodies l)) (place-drop es i e stands)
 
     pub laid-part : partAt (laid n es) i ≡ e .body
@@ -84,15 +84,15 @@ module _ (n : ℕ) (es : List Entry) (fits : Fitting n es) where
   laid-begins (suc i) h =
       let next = entry-there (suc i) h in
       let e = entry-there i (omega arith) in
-      omega (arith, laid-offset (suc i) (next .0) (next .1), start-next (contentsEnd n) es i (e .0) (e .1), laid-offset i (e .0) (e .1), laid-length i (e .0) (e .1))
+      omega (arith, laid-offset (suc i) (next .0) (next .1), start-next bodyOf (contentsEnd n) es i (e .0) (e .1), laid-offset i (e .0) (e .1), laid-length i (e .0) (e .1))
 
   laid-ends : beginAt (laid n es) (entriesIn (laid n es)) ≡ length (laid n es)
   unfolding entries
   laid-ends =
       let last : entriesIn (laid n es) ≡ suc (suc n) = laid-entries ∙ omega (arith, fits .all) in
       let e = entry-there (suc n) (omega arith) in
-      let end : startOf (contentsEnd n) es (suc (suc n)) ≡ contentsEnd n + length (joined (bodies es)) = rw (sym last, laid-entries) (start-end (contentsEnd n) es) in
-      rw last (omega (arith, laid-offset (suc n) (e .0) (e .1), laid-length (suc n) (e .0) (e .1), start-next (contentsEnd n) es (suc n) (e .0) (e .1), laid-size n es (fits .all)))
+      let end : startOf bodyOf (contentsEnd n) es (suc (suc n)) ≡ contentsEnd n + length (joined (bodies es)) = rw (sym last, laid-entries) (start-end bodyOf (contentsEnd n) es) in
+      rw last (omega (arith, laid-offset (suc n) (e .0) (e .1), laid-length (suc n) (e .0) (e .1), start-next bodyOf (contentsEnd n) es (suc n) (e .0) (e .1), laid-size n es (fits .all)))
 
   pub laid-no-gaps : NoGaps (laid n es)
   laid-no-gaps = record { room = rw laid-count (omega (arith, laid-size n es (fits .all))); begins = laid-begins; ends = laid-ends }

@@ -1,48 +1,53 @@
--- Where the bodies of entries begin that are laid out one after the other, and what is left of contents and bodies from an entry on.
+-- Where parts begin that are laid out one after the other, and what is left of contents and parts from one on.
 use mathlib.Core.Path.{_≡_, refl}
 use mathlib.Core.Option.{some}
-use mathlib.Core.List.{List, [], _∷_, _++_, append-assoc}
+use mathlib.Core.List.{List, [], _∷_, _++_, map, append-assoc}
 use Prim.Native.Nat.{ℕ, zero, suc, _+_, _*_, _≤_}
 use native.Mathlib.Omega.{arith}
 use lib.ListN.{length, drop, length-append}
 use lib.Seq.{drop-at}
 use Rattle.words.specs.Summaries.{place, joined}
-use Rattle.layout.specs.BookLayout.{Entry, contentsFrom, bodies}
+use Rattle.layout.specs.BookLayout.{Entry, contentsFrom}
 use Rattle.layout.proofs.Places.{nothing}
 
--- Where the body of entry i begins, if that of entry 0 begins at `at`.
-abbrev pub startOf : ℕ → List Entry → ℕ → ℕ
-startOf at es zero = at
-startOf at [] (suc i) = at
-startOf at (e ∷ es) (suc i) = startOf (at + length (e .body)) es i
+-- The bytes of an entry's body, as a part.
+abbrev pub bodyOf : Entry → List ℕ
+bodyOf e = e .body
 
--- The next begins where it ends.
-pub start-next : (at : ℕ) (es : List Entry) (i : ℕ) (e : Entry) → place es (suc i) ≡ some e → startOf at es (suc i) ≡ startOf at es i + length (e .body)
-start-next at [] i e p = nothing p
-start-next at (d ∷ es) zero e p = let same : d ≡ e = cc in rw same
-start-next at (d ∷ es) (suc i) e p = start-next (at + length (d .body)) es i e p
+module _ {A : Type 0} (write : A → List ℕ) where
+  -- Where part i begins, if part 0 begins at `at`.
+  abbrev pub startOf : ℕ → List A → ℕ → ℕ
+  startOf at l zero = at
+  startOf at [] (suc i) = at
+  startOf at (a ∷ l) (suc i) = startOf (at + length (write a)) l i
 
-pub start-within : (at : ℕ) (es : List Entry) (i : ℕ) → startOf at es i ≤ at + length (joined (bodies es))
-start-within at es zero = omega arith
-start-within at [] (suc i) = omega arith
-start-within at (e ∷ es) (suc i) = omega (arith, start-within (at + length (e .body)) es i, length-append (e .body) (joined (bodies es)))
+  -- The next begins where it ends.
+  pub start-next : (at : ℕ) (l : List A) (i : ℕ) (a : A) → place l (suc i) ≡ some a → startOf at l (suc i) ≡ startOf at l i + length (write a)
+  start-next at [] i a p = nothing p
+  start-next at (b ∷ l) zero a p = let same : b ≡ a = cc in rw same
+  start-next at (b ∷ l) (suc i) a p = start-next (at + length (write b)) l i a p
 
--- The last ends with the bodies.
-pub start-end : (at : ℕ) (es : List Entry) → startOf at es (length es) ≡ at + length (joined (bodies es))
-start-end at [] = omega arith
-start-end at (e ∷ es) = omega (arith, start-end (at + length (e .body)) es, length-append (e .body) (joined (bodies es)))
+  pub start-within : (at : ℕ) (l : List A) (i : ℕ) → startOf at l i ≤ at + length (joined (map write l))
+  start-within at l zero = omega arith
+  start-within at [] (suc i) = omega arith
+  start-within at (a ∷ l) (suc i) = omega (arith, start-within (at + length (write a)) l i, length-append (write a) (joined (map write l)))
+
+  -- The last ends with the parts.
+  pub start-end : (at : ℕ) (l : List A) → startOf at l (length l) ≡ at + length (joined (map write l))
+  start-end at [] = omega arith
+  start-end at (a ∷ l) = omega (arith, start-end (at + length (write a)) l, length-append (write a) (joined (map write l)))
+
+  -- "without gaps"
+  pub drop-parts : (front : List ℕ) (at : ℕ) → length front ≡ at → (l : List A) (i : ℕ) → drop (startOf at l i) (front ++ joined (map write l)) ≡ joined (map write (drop i l))
+  drop-parts front at h l zero = drop-at front (joined (map write l)) at h
+  drop-parts front at h [] (suc i) = drop-at front [] at h
+  drop-parts front at h (a ∷ l) (suc i) =
+      rw (← append-assoc front (write a) (joined (map write l))) (drop-parts (front ++ write a) (at + length (write a)) (omega (arith, length-append front (write a))) l i)
 
 -- "entries of 12 bytes"
-pub drop-contents : (at : ℕ) (es : List Entry) (rest : List ℕ) (i : ℕ) → i ≤ length es → drop (12 * i) (contentsFrom at es ++ rest) ≡ contentsFrom (startOf at es i) (drop i es) ++ rest
+pub drop-contents : (at : ℕ) (es : List Entry) (rest : List ℕ) (i : ℕ) → i ≤ length es → drop (12 * i) (contentsFrom at es ++ rest) ≡ contentsFrom (startOf bodyOf at es i) (drop i es) ++ rest
 drop-contents at es rest zero h = refl
 drop-contents at [] rest (suc i) h = absurd (omega arith)
 drop-contents at (e ∷ es) rest (suc i) h =
     let twelve : 12 * suc i ≡ suc (suc (suc (suc (suc (suc (suc (suc (suc (suc (suc (suc (12 * i)))))))))))) = omega arith in
     rw twelve (drop-contents (at + length (e .body)) es rest i (omega arith))
-
--- "Bodies stand without gaps in entry order"
-pub drop-bodies : (front : List ℕ) (at : ℕ) → length front ≡ at → (es : List Entry) (i : ℕ) → drop (startOf at es i) (front ++ joined (bodies es)) ≡ joined (bodies (drop i es))
-drop-bodies front at h es zero = drop-at front (joined (bodies es)) at h
-drop-bodies front at h [] (suc i) = drop-at front [] at h
-drop-bodies front at h (e ∷ es) (suc i) =
-    rw (← append-assoc front (e .body) (joined (bodies es))) (drop-bodies (front ++ e .body) (at + length (e .body)) (omega (arith, length-append front (e .body))) es i)
