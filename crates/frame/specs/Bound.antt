@@ -1,6 +1,6 @@
 -- The cheap bound: subgoals that no used row can serve are at most what is to spend times the most that a row can serve.
-use mathlib.Core.Path.{_≡_, refl, sym, subst}
-use mathlib.Core.Logic.{_⊎_, inl, inr}
+use mathlib.Core.Path.{refl, subst}
+use mathlib.Core.Logic.{inl, inr}
 use mathlib.Core.Bool.{Bool, not}
 use mathlib.Core.List.{List, [], _∷_, List·Memᴰ·head, List·Memᴰ·tail, List·Memᴰ·not-nil}
 use Prim.Native.Nat.{ℕ, _*_, _≤_, _<_}

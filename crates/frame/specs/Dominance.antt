@@ -10,15 +10,15 @@ use borrow.Author.Tests.{eq-eqb, ne-eqb}
 use lib.Dec.{eqb, eqb→eq}
 use lib.ListN.{length, getD, length-map}
 use Rattle.words.specs.Words.{_∈_, Term, var, con, Subgoal, Rule, becomes, each}
-use Rattle.words.specs.Summaries.{Summaries, Own, old, fresh, kept, inPlace}
+use Rattle.words.specs.Summaries.{Summaries, Own, fresh, kept, inPlace}
 use Rattle.words.specs.Tests.{passes, fails, any, any-sound, any-complete}
 use Rattle.theory.specs.Carry.{subgoal-same}
 use Rattle.theory.specs.Expand.{extended}
 use Rattle.frame.specs.Numbered.{Rows, nothing, rowAt, Lands, WorksOn}
 use Rattle.frame.specs.Lists.{getD-in, in-getD, without, without-in, without-out, without-few}
 use Rattle.frame.specs.Moved.{same-use}
-use Rattle.frame.specs.Works.{moved, works-more}
-use Rattle.frame.specs.Can.{Either, CanBy}
+use Rattle.frame.specs.Works.{moved}
+use Rattle.frame.specs.Can.{CanBy}
 use Rattle.frame.specs.Sets.{can-more}
 use Rattle.frame.specs.Dominates.{Dominates}
 

@@ -1,19 +1,19 @@
 -- The least number of rows that can do: tried from 0 up, at most the number of the question's subgoals; and whether any list works.
-use mathlib.Core.Path.{_≡_, refl, sym, ap, _∙_}
-use mathlib.Core.Logic.{_⊎_, inl, inr, _↔_}
+use mathlib.Core.Path.{ap}
+use mathlib.Core.Logic.{_↔_}
 use mathlib.Core.List.{List, [], _++_}
 use Prim.Native.Nat.{ℕ, _+_, _≤_, _<_}
 use native.Mathlib.Omega.{arith}
 use native.Mathlib.Decide.{decLt}
 use lib.ListN.{length, length-map}
-use Rattle.words.specs.Words.{_∈_, Rule}
+use Rattle.words.specs.Words.{Rule}
 use Rattle.words.specs.Summaries.{Summaries, SummaryRow}
 use Rattle.words.specs.Order.{RowBefore}
 use Rattle.words.specs.Answer.{Rewrites}
 use Rattle.words.specs.Enumerate.{Enumerates}
 use Rattle.words.specs.Counted.{counted, counted-in, counted-out, counted-rising}
 use Rattle.theory.specs.Normal.{shorten}
-use Rattle.frame.specs.Numbered.{Rows, rowAt, Numbers, In, WorksOn}
+use Rattle.frame.specs.Numbered.{Rows, rowAt, WorksOn}
 use Rattle.frame.specs.Works.{works-more}
 use Rattle.frame.specs.Rewritten.{works-rewrites, rewrites-numbers}
 use Rattle.frame.specs.Can.{Any, Can}

@@ -1,14 +1,13 @@
 -- The first mapping by places is the first by the bytes that name the targets.
 use mathlib.Core.Path.{_≡_, refl, sym, ap, ap₂, _∙_, subst}
 use mathlib.Core.Logic.{_⊎_, inl, inr, ⊎-elim}
-use mathlib.Core.List.{List, [], _∷_, map, map-map, List·Memᴰ·head, List·Memᴰ·tail, Memᴰ·of-map, Memᴰ·cast, List·Memᴰ·not-nil}
+use mathlib.Core.List.{List, [], _∷_, map, List·Memᴰ·head, List·Memᴰ·tail, Memᴰ·of-map, Memᴰ·cast, List·Memᴰ·not-nil}
 use Prim.Native.Nat.{ℕ, _<_}
 use native.Mathlib.Omega.{arith}
 use lib.ListN.{length, getD, length-map, List·getD-map}
-use Rattle.words.specs.Words.{_∈_, Term, con, Subgoal, Rule}
+use Rattle.words.specs.Words.{_∈_, Term, Subgoal, Rule}
 use Rattle.words.specs.Order.{ListBefore, First}
 use Rattle.words.specs.Answer.{Sends}
-use Rattle.words.specs.Lists.{map-same}
 use Rattle.words.specs.Placings.{Target}
 use Rattle.words.specs.Ways.{factOf}
 use Rattle.words.specs.Named.{written, BytesBefore, Names}

@@ -1,12 +1,12 @@
 -- What stands at a number of a list, the number at which an element first stands, and how many elements pass a test.
-use mathlib.Core.Path.{_≡_, refl, sym, ap, _∙_, subst}
+use mathlib.Core.Path.{_≡_, refl, sym, ap}
 use mathlib.Core.Bool.{Bool, true, false, cond, not}
 use mathlib.Core.Option.{some, Option·none-ne-some, Option·some-injective}
 use mathlib.Core.List.{List, [], _∷_, map, List·Memᴰ·head, List·Memᴰ·tail, List·Memᴰ·not-nil}
 use Prim.Native.Nat.{ℕ, zero, suc, _+_, _≤_, _<_}
 use native.Mathlib.Omega.{arith}
 use borrow.Author.Tests.{eqb-true, eqb-false, eq-eqb}
-use lib.Dec.{T, eqb, eqb→eq, not-T, T-not}
+use lib.Dec.{eqb, eqb→eq, not-T, T-not}
 use lib.ListN.{length, getD}
 use Rattle.words.specs.Words.{_∈_}
 use Rattle.words.specs.Summaries.{place}

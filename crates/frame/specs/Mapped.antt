@@ -1,5 +1,5 @@
 -- A mapping by places is a containment mapping, and each containment mapping has its places.
-use mathlib.Core.Path.{_≡_, refl, sym, ap, _∙_, subst}
+use mathlib.Core.Path.{_≡_, sym, ap, _∙_}
 use mathlib.Core.Logic.{_↔_}
 use mathlib.Core.List.{List, map, Memᴰ·cast}
 use Prim.Native.Nat.{ℕ, _<_}

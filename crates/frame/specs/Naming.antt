@@ -15,7 +15,6 @@ use Rattle.words.specs.Counted.{counted, everyPlace}
 use Rattle.words.specs.Placings.{Target}
 use Rattle.words.specs.Ways.{factOf}
 use Rattle.words.specs.Named.{written, places, placesIn, pairs}
-use Rattle.frame.specs.Numbered.{nothing}
 use Rattle.frame.specs.Placed.{owners}
 use Rattle.frame.specs.Targets.{owners-first, owners-rest}
 use Rattle.frame.specs.FirstAt.{noTarget, targetsAt}

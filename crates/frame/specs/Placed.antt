@@ -4,7 +4,7 @@ use Prim.Native.Nat.{ℕ, suc, _≤_, _<_}
 use lib.ListN.{length, getD, replicate}
 use Rattle.words.specs.Words.{_∈_, Term, Subgoal, Rule}
 use Rattle.words.specs.Summaries.{Summaries, Own, uses, joined}
-use Rattle.frame.specs.Numbered.{Rows, nothing, keptHead}
+use Rattle.frame.specs.Numbered.{Rows, keptHead}
 use Rattle.frame.specs.Can.{Either}
 use Rattle.frame.specs.MapsAt.{MapsAt}
 

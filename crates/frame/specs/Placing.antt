@@ -1,9 +1,9 @@
 -- What can be done with sets of rows can be done by places, and the other way round.
-use mathlib.Core.Path.{_≡_, refl, sym, ap, _∙_, subst}
+use mathlib.Core.Path.{_≡_, sym, ap, _∙_, subst}
 use mathlib.Core.Logic.{_⊎_, inl, inr, ⊎-elim, _↔_}
 use mathlib.Core.Bool.{Bool}
 use mathlib.Core.List.{List, map}
-use Prim.Native.Nat.{ℕ, _≤_, _<_}
+use Prim.Native.Nat.{ℕ, _<_}
 use native.Mathlib.Omega.{arith}
 use native.Mathlib.Nat.{add-zero}
 use lib.Dec.{ltb, ltb→lt, lt→ltb}
@@ -16,7 +16,6 @@ use Rattle.frame.specs.Numbered.{Rows, nothing, rowAt, Lands, keptHead}
 use Rattle.frame.specs.Lists.{getD-in, in-getD, choices, passing-split}
 use Rattle.frame.specs.Works.{works-more}
 use Rattle.frame.specs.Can.{Either, CanBy}
-use Rattle.frame.specs.MapsAt.{MapsAt}
 use Rattle.frame.specs.Placed.{targets, rowOf, AnyPair, Placed}
 use Rattle.frame.specs.Targets.{joined-at, at-joined, uses-place, place-uses}
 

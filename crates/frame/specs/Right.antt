@@ -1,15 +1,14 @@
 -- From the answer and the first mappings by places, there and back, to the answer with its witness.
-use mathlib.Core.Path.{_≡_, refl, sym, ap, _∙_, subst}
-use mathlib.Core.List.{List, map}
+use mathlib.Core.Path.{sym, subst}
+use mathlib.Core.List.{List}
 use Prim.Native.Nat.{ℕ, _<_}
 use native.Mathlib.Omega.{arith}
-use lib.ListN.{length, getD}
+use lib.ListN.{length}
 use Rattle.words.specs.Words.{_∈_, Term, Subgoal, Rule}
-use Rattle.words.specs.Summaries.{Summaries, Own, uses, expansion, rewriting}
+use Rattle.words.specs.Summaries.{Summaries, uses, expansion, rewriting}
 use Rattle.words.specs.Order.{ListBefore, First}
 use Rattle.words.specs.Answer.{Rewrites, Answer, AtPlaces, AtPairs, FirstThere, FirstBack}
 use Rattle.words.specs.Result.{Answered, Right}
-use Rattle.words.specs.Ways.{factOf}
 use Rattle.words.specs.Named.{places, places-names, pairs, pairs-names}
 use Rattle.frame.specs.Numbered.{Rows, keptHead}
 use Rattle.frame.specs.Lists.{in-getD}

@@ -1,6 +1,6 @@
 -- Pairs of a subgoal of the question and a target that go together, and pairs that nothing supports.
 use mathlib.Core.Path.{_≡_}
-use mathlib.Core.List.{List, map}
+use mathlib.Core.List.{map}
 use Prim.Native.Nat.{ℕ, _<_}
 use lib.ListN.{length, getD}
 use Rattle.words.specs.Words.{Term, con, Subgoal, Rule, becomes, each}

@@ -10,7 +10,7 @@ use lib.ListN.{length, getD, replicate, length-append, length-replicate, getD-re
 use lib.Seq.{getD-append-add}
 use Rattle.words.specs.Words.{_∈_, Term, Subgoal}
 use Rattle.words.specs.Summaries.{place, Summaries, Own, inPlace, uses, joined}
-use Rattle.frame.specs.Numbered.{Rows, nothing, rowAt}
+use Rattle.frame.specs.Numbered.{Rows, rowAt}
 use Rattle.frame.specs.Lists.{getD-in, in-getD}
 use Rattle.frame.specs.Placed.{owners}
 

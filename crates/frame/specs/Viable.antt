@@ -1,13 +1,12 @@
 -- A pair that nothing supports can be left out. So can one that sends a variable to a hidden one, where another subgoal with the variable has no pair that does.
-use mathlib.Core.Path.{_≡_, refl, sym, ap, _∙_, subst}
-use mathlib.Core.Logic.{_⊎_, inl, inr, ⊎-elim, _↔_}
-use mathlib.Core.List.{List, map}
+use mathlib.Core.Path.{_≡_, refl, sym, ap, _∙_}
+use mathlib.Core.Logic.{_↔_}
+use mathlib.Core.List.{map}
 use Prim.Native.Nat.{ℕ, suc, _<_}
 use native.Mathlib.Omega.{arith}
-use native.Mathlib.Decide.{ℕ-discrete}
 use lib.ListN.{length, getD, List·getD-map}
-use Rattle.words.specs.Words.{_∈_, Term, var, con, Subgoal, Rule, becomes, each}
-use Rattle.words.specs.Summaries.{Summaries, Own, old, fresh, inPlace}
+use Rattle.words.specs.Words.{Term, var, con, Subgoal, Rule, becomes, each}
+use Rattle.words.specs.Summaries.{Summaries, Own, fresh}
 use Rattle.theory.specs.Expand.{extended}
 use Rattle.frame.specs.Numbered.{Rows, rowAt, Lands}
 use Rattle.frame.specs.Moved.{same-use}

@@ -1,12 +1,12 @@
 -- The question works on row numbers exactly if it maps into the expansion of the list of those rows: uses are renumbered by their places.
 use mathlib.Core.Path.{_≡_, refl, sym, ap, _∙_, subst, fun-ext}
 use mathlib.Core.Logic.{_↔_}
-use mathlib.Core.List.{List, map, Memᴰ·cast}
+use mathlib.Core.List.{List, map}
 use Prim.Native.Nat.{ℕ, _<_}
 use native.Mathlib.Nat.{add-zero}
 use lib.ListN.{length, length-map, getD, List·getD-map}
-use Rattle.words.specs.Words.{_∈_, Term, var, con, Subgoal, Rule, Facts, Listed, becomes, each, Yields, Mapping}
-use Rattle.words.specs.Summaries.{Summaries, Own, old, fresh, kept, inPlace, uses, joined, expansion, rewriting}
+use Rattle.words.specs.Words.{_∈_, Term, var, con, Subgoal, Rule, Facts, becomes, each, Yields, Mapping}
+use Rattle.words.specs.Summaries.{Summaries, Own, old, fresh, kept, uses, joined, expansion, rewriting}
 use Rattle.theory.specs.Carry.{terms-after, carry, more}
 use Rattle.theory.specs.Places.{used, in-use}
 use Rattle.theory.specs.Expand.{extended}
