@@ -21,5 +21,6 @@ pub mod Bound
 pub mod Mapped
 pub mod FirstAt
 pub mod Bytes
+pub mod Insides
 pub mod Naming
 pub mod Right

@@ -17,6 +17,7 @@ use Rattle.words.specs.Ways.{factOf}
 use Rattle.words.specs.Named.{written, places, placesIn, pairs}
 use Rattle.frame.specs.Placed.{owners}
 use Rattle.frame.specs.Targets.{owners-first, owners-rest}
+use Rattle.frame.specs.Insides.{inside-first, inside-rest}
 use Rattle.frame.specs.FirstAt.{noTarget, targetsAt}
 use Rattle.frame.specs.Bytes.{insides, pairBytes, thereBytes, backBytes}
 
@@ -33,22 +34,6 @@ gather-numbered f p n (a ∷ l) h =
 
 everyPlace-numbered : {A B : Type 0} (f : ℕ → A → List B) (l : List A) → everyPlace f l ≡ numbered f 1 l
 everyPlace-numbered f l = gather-numbered f (place l) 1 l (λ i. let e : 1 + i ≡ suc i = omega arith in ap (place l) e)
-
-counted-at : (n m k : ℕ) → k < m → getD (counted n m) k 0 ≡ n + k
-counted-at n zero k h = absurd (omega arith)
-counted-at n (suc m) zero h = sym (add-zero n)
-counted-at n (suc m) (suc k) h = omega (arith, counted-at (suc n) m k (omega arith))
-
-counted-long : (n m : ℕ) → length (counted n m) ≡ m
-counted-long n zero = refl
-counted-long n (suc m) = ap suc (counted-long (suc n) m)
-
-module _ {A : Type 0} (l : List A) (ls : List (List A)) where
-  inside-first : (k : ℕ) → k < length l → getD (insides (l ∷ ls)) k 0 ≡ k
-  inside-first k h = List·getD-append (counted 0 (length l)) (insides ls) 0 k (omega (arith, counted-long 0 (length l))) ∙ omega (arith, counted-at 0 (length l) k h)
-
-  inside-rest : (k : ℕ) → getD (insides (l ∷ ls)) (length l + k) 0 ≡ getD (insides ls) k 0
-  inside-rest k = ap (λ n. getD (insides (l ∷ ls)) (n + k) 0) (sym (counted-long 0 (length l))) ∙ getD-append-add (counted 0 (length l)) (insides ls) k 0
 
 -- numbers counted from the next
 owners-next : {A : Type 0} (ls : List (List A)) (v k : ℕ) → k < length (joined ls) → getD (owners (suc v) ls) k 0 ≡ suc (getD (owners v ls) k 0)
