@@ -1,0 +1,4 @@
+pub mod Task
+pub mod Taking
+pub mod Mapped
+pub mod Answer
