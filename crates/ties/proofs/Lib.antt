@@ -5,3 +5,8 @@ pub mod OverTerms
 pub mod Sizes
 pub mod Read
 pub mod Slots
+pub mod Carried
+pub mod Pairs
+pub mod Granted
+pub mod InUse
+pub mod There
