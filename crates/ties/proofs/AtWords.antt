@@ -1,15 +1,13 @@
 -- What stands where in the words of a list of subgoals.
 use mathlib.Core.Path.{_≡_, refl, ap, _∙_}
 use mathlib.Core.List.{List, [], _∷_, map}
-use Prim.Native.Nat.{ℕ, zero, suc, _+_, _*_, _<_, _≤_}
+use Prim.Native.Nat.{ℕ, zero, suc, _+_, _*_, _<_}
 use native.Mathlib.Omega.{arith}
 use lib.ListN.{length, getD, length-append, length-map, List·getD-append, List·getD-map}
 use lib.Seq.{getD-append-add}
 use Rattle.words.specs.Words.{Subgoal}
+pub use Rattle.frame.specs.Numbered.{nothing}
 use Rattle.coding.specs.Code.{padded, subgoalWords, wordsOf, widthsOf}
-
-abbrev pub nothing : {A : Type 0} → Subgoal A
-nothing = record { relation = 0; terms = [] }
 
 pub padded-long : (n : ℕ) (l : List ℕ) → length (padded n l) ≡ n
 padded-long zero l = refl

@@ -1,5 +1,5 @@
 -- What is first by one order is first by another, carried over by what keeps the order.
-use mathlib.Core.Path.{_≡_, refl, sym, ap, _∙_, subst}
+use mathlib.Core.Path.{_≡_, sym, ap, subst}
 use mathlib.Core.Logic.{_⊎_, inl, inr, _↔_}
 use Rattle.words.specs.Order.{First}
 use Rattle.words.specs.Strict.{Strict, one-way}

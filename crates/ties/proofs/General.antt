@@ -1,20 +1,19 @@
 -- The places that a task asks for on words are those of the mappings over terms.
-use mathlib.Core.Path.{_≡_, refl, sym, ap, _∙_}
+use mathlib.Core.Path.{_≡_, sym, ap, _∙_}
 use mathlib.Core.Logic.{_↔_}
 use mathlib.Core.Bool.{cond}
 use mathlib.Core.List.{List, map}
-use Prim.Native.Nat.{ℕ, suc, _+_, _*_, _<_, _≤_}
+use Prim.Native.Nat.{ℕ, _<_, _≤_}
 use native.Mathlib.Omega.{arith}
 use native.Mathlib.Decide.{decLt}
 use borrow.Author.Tests.{lt-ltb, le-ltb}
-use lib.ListN.{length, getD, length-map, List·getD-map}
+use lib.ListN.{length, getD, length-map}
 use lib.Seq.{ext-getD}
 use Rattle.words.specs.Words.{_∈_, Subgoal, each}
-use Rattle.words.specs.Answer.{AtPlaces}
 use Rattle.placing.specs.Task.{Task, valueOf, Agrees, sourceTerm, targetTerm, widthOf}
 use Rattle.placing.specs.Mapped.{useOf, Lands, Mapped}
-use Rattle.ties.specs.Coded.{Naming, Coding, Bound, In, task, Ready, Valued}
-use Rattle.ties.proofs.AtWords.{nothing, map-get, relation-at, term-at, width-at, words-long}
+use Rattle.ties.specs.Coded.{Naming, Coding, Bound, task, Ready, Valued}
+use Rattle.ties.proofs.AtWords.{nothing, map-get, relation-at, term-at, width-at}
 use Rattle.ties.proofs.AtPlaces.{getD-place, getD-in, Indexed, places-indexed, indexed-places}
 
 -- what a source word becomes

@@ -1,12 +1,11 @@
 -- A sound book's value grants the bounds; summary rows lie within them.
-use mathlib.Core.Path.{_≡_, refl, sym, ap, _∙_, subst}
-use mathlib.Core.Option.{some}
-use mathlib.Core.List.{List, map, Memᴰ·of-map, Memᴰ·map}
-use Prim.Native.Nat.{ℕ, _<_, _≤_}
+use mathlib.Core.Path.{_≡_, sym, ap, _∙_, subst}
+use mathlib.Core.List.{List, Memᴰ·of-map, Memᴰ·map}
+use Prim.Native.Nat.{ℕ, _≤_}
 use native.Mathlib.Omega.{arith}
 use lib.ListN.{length, getD}
 use Rattle.words.specs.Words.{_∈_, Term, var, con, Subgoal, Rule, Fits, becomes, each}
-use Rattle.words.specs.Summaries.{Summaries, summary, orEmpty, definition, SummaryRow}
+use Rattle.words.specs.Summaries.{Summaries, SummaryRow}
 use Rattle.words.specs.Book.{Summary, Book, admittedOf}
 use Rattle.theory.specs.Held.{Every}
 use Rattle.theory.specs.Sound.{from-summaries}

@@ -1,15 +1,14 @@
 -- What stands in the uses of a list of rows: terms within bounds, own variables of that use alone, few subgoals.
-use mathlib.Core.Path.{_≡_, refl, sym, ap, _∙_, subst}
+use mathlib.Core.Path.{_≡_, refl, sym, ap, subst}
 use mathlib.Core.Bool.{Bool, true, false, cond}
-use mathlib.Core.Option.{some, Option·none-ne-some}
-use mathlib.Core.List.{List, [], _∷_, _++_, map, Memᴰ·of-map, List·Memᴰ·head, List·Memᴰ·tail}
-use Prim.Native.Nat.{ℕ, zero, suc, _+_, _*_, _<_, _≤_}
+use mathlib.Core.Option.{some}
+use mathlib.Core.List.{List, [], _∷_, map, Memᴰ·of-map, List·Memᴰ·head, List·Memᴰ·tail}
+use Prim.Native.Nat.{ℕ, suc, _*_, _<_, _≤_}
 use native.Mathlib.Omega.{arith}
 use lib.Dec.{eqb}
 use lib.ListN.{length, length-map, length-append}
 use Rattle.words.specs.Words.{_∈_, Term, var, con, Subgoal, Rule, AllFit, becomes, each}
 use Rattle.words.specs.Summaries.{Summaries, summary, orEmpty, definition, Own, old, fresh, replaced, kept, inUse, inPlace, uses, joined, rewriting}
-use Rattle.theory.specs.Held.{Every}
 use Rattle.theory.specs.Fit.{FitEvery, fit-expansion}
 use Rattle.layout.specs.RuleLayout.{TermWithin, RuleWithin}
 use Rattle.layout.specs.BookLayout.{summaryMost}

@@ -10,3 +10,5 @@ pub mod Pairs
 pub mod Granted
 pub mod InUse
 pub mod There
+pub mod UseOf
+pub mod Back

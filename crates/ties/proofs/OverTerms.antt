@@ -1,15 +1,14 @@
 -- The general law over terms of rules: variables have values, constants stay.
 use mathlib.Core.Path.{_≡_, refl, sym, ap, _∙_, subst}
 use mathlib.Core.Logic.{_↔_}
-use mathlib.Core.List.{List, map, List·Memᴰ·head, List·Memᴰ·tail}
-use Prim.Native.Nat.{ℕ, suc, _<_, _≤_}
+use mathlib.Core.List.{List, map}
+use Prim.Native.Nat.{ℕ, suc, _≤_}
 use native.Mathlib.Omega.{arith}
-use lib.ListN.{getD}
-use Rattle.words.specs.Words.{_∈_, Term, var, con, Subgoal, becomes, each}
+use Rattle.words.specs.Words.{Term, var, con, Subgoal, becomes, each}
 use Rattle.words.specs.Answer.{AtPlaces}
 use Rattle.words.specs.Lists.{map-same}
 use Rattle.placing.specs.Mapped.{Mapped}
-use Rattle.ties.specs.Coded.{Naming, Coding, Bound, In, task, Ready, Valued, Sent, OverTerms}
+use Rattle.ties.specs.Coded.{Naming, Coding, In, task, Ready, Valued, Sent, OverTerms}
 use Rattle.ties.proofs.General.{mapped-is}
 
 -- values that are the same on the terms of the subgoals make the same of these

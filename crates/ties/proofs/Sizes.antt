@@ -8,7 +8,7 @@ use lib.ListN.{length, getD, length-map, List·getD-eq-default}
 use Rattle.words.specs.Words.{_∈_, Subgoal}
 use Rattle.coding.specs.Code.{padded}
 use Rattle.placing.specs.Task.{Task, Sized, widthOf, targetTerm}
-use Rattle.ties.specs.Coded.{Naming, Coding, In, task, Small}
+use Rattle.ties.specs.Coded.{Naming, Coding, task, Small}
 use Rattle.ties.proofs.AtWords.{nothing, words-get, words-long, width-at}
 use Rattle.ties.proofs.AtPlaces.{getD-in}
 

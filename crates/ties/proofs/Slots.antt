@@ -3,16 +3,14 @@ use mathlib.Core.Path.{_≡_, refl, ap, _∙_}
 use mathlib.Core.Logic.{_↔_}
 use mathlib.Core.Option.{some}
 use mathlib.Core.List.{List}
-use Prim.Native.Nat.{ℕ, suc, _+_, _<_, _≤_}
+use Prim.Native.Nat.{ℕ, suc, _<_, _≤_}
 use native.Mathlib.Omega.{arith}
-use lib.ListN.{getD}
 use Rattle.words.specs.Words.{_∈_, Term, var, con, Subgoal}
 use Rattle.words.specs.Summaries.{place}
 use Rattle.words.specs.Counted.{place-in}
-use Rattle.layout.specs.RuleLayout.{TermWithin}
-use Rattle.coding.specs.Code.{constantTag, slotCode}
+use Rattle.coding.specs.Code.{slotCode}
 use Rattle.placing.specs.Mapped.{useOf, Mapped}
-use Rattle.ties.specs.Coded.{Coding, Bound, In, task, Ready, Sent, OverTerms}
+use Rattle.ties.specs.Coded.{Coding, In, task, Ready, Sent, OverTerms}
 use Rattle.ties.specs.Codings.{slotNaming, RuleSource}
 use Rattle.ties.proofs.OverTerms.{sent-is}
 

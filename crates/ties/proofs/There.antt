@@ -2,7 +2,7 @@
 use mathlib.Core.Path.{_≡_, refl, sym, ap, _∙_, subst}
 use mathlib.Core.Logic.{_↔_}
 use mathlib.Core.List.{List, map}
-use Prim.Native.Nat.{ℕ, suc, _+_, _*_, _<_, _≤_}
+use Prim.Native.Nat.{ℕ, suc, _+_, _<_, _≤_}
 use native.Mathlib.Omega.{arith}
 use lib.ListN.{length, getD}
 use Rattle.words.specs.Words.{_∈_, Term, var, con, Subgoal, Rule, becomes, each}
@@ -13,10 +13,10 @@ use Rattle.words.specs.Counted.{place-in}
 use Rattle.words.specs.Orders.{bytesOrder}
 use Rattle.theory.specs.Places.{used}
 use Rattle.theory.specs.Suit.{terms-agree}
-use Rattle.coding.specs.Code.{variableTag, ownCode}
+use Rattle.coding.specs.Code.{ownCode}
 use Rattle.placing.specs.Task.{Task, Sized}
 use Rattle.placing.specs.Mapped.{Mapped, FirstMapped}
-use Rattle.ties.specs.Coded.{Bound, In, Sent, Small}
+use Rattle.ties.specs.Coded.{In, Sent}
 use Rattle.ties.specs.Codings.{slotNaming, ownCoding, readOwn, OwnWithin, RuleSource}
 use Rattle.ties.specs.Uses.{pairsOf}
 use Rattle.ties.specs.Bounds.{Bounds, Rows, HeadBound}

@@ -1,5 +1,4 @@
 -- Uses one after the other: which of them a place lies in, and where in it; which subgoals end a use.
-use mathlib.Core.Path.{_≡_}
 use mathlib.Core.Bool.{cond}
 use mathlib.Core.List.{List, [], _∷_, _++_}
 use Prim.Native.Nat.{ℕ, zero, suc, _-_}
