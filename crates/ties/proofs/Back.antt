@@ -38,7 +38,7 @@ use Rattle.ties.proofs.Pairs.{place-paired}
 use Rattle.ties.proofs.UseOf.{AllSome, ends-long, use-of-is}
 use Rattle.ties.proofs.Granted.{fits-room, fits-alike}
 use Rattle.ties.proofs.InUse.{OfUse, use-terms, use-some, uses-fit, uses-few}
-use Rattle.ties.proofs.There.{uses-within}
+use Rattle.ties.proofs.Into.{uses-within}
 
 -- places counted from 1 are places counted from 0, one more; in the same order
 places-from : {A : Type 0} (all : List A) (bytes : List ℕ) (gs : List A) → AtPlaces all bytes gs → (l : List ℕ) × (map suc l ≡ bytes)

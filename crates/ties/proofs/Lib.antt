@@ -9,6 +9,10 @@ pub mod Carried
 pub mod Pairs
 pub mod Granted
 pub mod InUse
+pub mod Into
 pub mod There
 pub mod UseOf
 pub mod Back
+pub mod Owners
+pub mod Feasibility
+pub mod Dominance
