@@ -9,13 +9,14 @@ use native.Mathlib.Omega.{arith}
 use native.Mathlib.Nat.{add-zero}
 use borrow.Author.Tests.{lt-ltb, le-ltb}
 use lib.ListN.{length, getD}
-use Rattle.words.specs.Words.{_∈_, Term, var, con, Subgoal, Rule, becomes, each}
-use Rattle.words.specs.Summaries.{place, Summaries, Own, old, fresh, kept, inPlace, uses, joined, rewriting}
+use Rattle.words.specs.Words.{_∈_, Term, var, con, Subgoal, Rule, becomes, each, Mapping}
+use Rattle.words.specs.Summaries.{place, Summaries, Own, old, fresh, kept, inPlace, uses, joined, expansion, rewriting}
 use Rattle.words.specs.Order.{ListBefore}
 use Rattle.words.specs.Answer.{AtPlaces, Back, FirstBack}
 use Rattle.words.specs.Lists.{same-map}
 use Rattle.words.specs.Counted.{place-in, place-within}
 use Rattle.words.specs.Orders.{bytesOrder}
+use Rattle.words.specs.WitnessExists.{back-maps, maps-back}
 use Rattle.theory.specs.Places.{use-of}
 use Rattle.theory.specs.Carry.{terms-after, terms-same}
 use Rattle.theory.specs.Suit.{terms-agree}
@@ -28,7 +29,7 @@ use Rattle.placing.specs.Mapped.{useOf, Mapped, FirstMapped}
 use Rattle.ties.specs.Coded.{In, Ready, OverTerms, Sent}
 use Rattle.ties.specs.Codings.{ownNaming, ownNamed, homeOf, termCoding, readTerm, OwnWithin}
 use Rattle.ties.specs.Uses.{useAt, endsOf}
-use Rattle.ties.specs.Bounds.{Bounds, Rows, HeadBound}
+use Rattle.ties.specs.Bounds.{Bounds, RowsWithin, HeadBound}
 use Rattle.ties.specs.Tasks.{backTask}
 use Rattle.ties.proofs.Read.{read-term, term-solid}
 use Rattle.ties.proofs.OverTerms.{sent-is}
@@ -68,7 +69,7 @@ own-slots : (x : Own ℕ) → OwnWithin (var x) → ownSlot (var x) < 64
 own-slots (old x) w = omega arith
 own-slots (fresh u x) w = omega arith
 
-module _ (arities : List ℕ) (s : Summaries) (q : Rule ℕ) (bounds : Bounds arities s q) (l : List (Subgoal (Term ℕ))) (rows : Rows s l) where
+module _ (arities : List ℕ) (s : Summaries) (q : Rule ℕ) (bounds : Bounds arities s q) (l : List (Subgoal (Term ℕ))) (rows : RowsWithin s l) where
   abbrev ls : List (List (Subgoal (Term (Own ℕ))))
   ls = uses s 0 l
 
@@ -188,3 +189,10 @@ module _ (arities : List ℕ) (s : Summaries) (q : Rule ℕ) (bounds : Bounds ar
 
       pub back-none : ((places : List ℕ) → Mapped p b places → ⊥) ↔ ((bytes : List ℕ) → Back s q (rewriting q l) bytes → ⊥)
       back-none = carried-none bytesOrder bytesOrder (map suc) more-before forth back
+
+      -- There are such places exactly if there is a containment mapping.
+      pub back-some : ((places : List ℕ) × Mapped p b places) ↔ Mapping (expansion s (rewriting q l)) q
+      back-some = (
+        λ m. back-maps s q (rewriting q l) (map suc (m .0)) (forth (m .0) (m .1)),
+        λ m. let w = maps-back s q (rewriting q l) m in let t = back (w .0) (w .1 .holds) in (t .0, t .2),
+      )

@@ -20,7 +20,7 @@ use Rattle.placing.specs.Task.{Task, Sized}
 use Rattle.placing.specs.Mapped.{Mapped}
 use Rattle.ties.specs.Coded.{Bound, In, Ready, Valued}
 use Rattle.ties.specs.Codings.{keptNaming, ownCoding, readOwn}
-use Rattle.ties.specs.Bounds.{Bounds, Rows}
+use Rattle.ties.specs.Bounds.{Bounds, RowsWithin}
 use Rattle.ties.specs.Tasks.{useTask}
 use Rattle.ties.proofs.AtWords.{map-get}
 use Rattle.ties.proofs.AtPlaces.{Indexed, places-indexed, indexed-places}
@@ -55,7 +55,7 @@ kept-code u (con k) w h = refl
 abbrev into : (ℕ → Term (Own ℕ)) → Term (Own ℕ) → Term (Own ℕ)
 into value = becomes con (extended kept (λ u. value))
 
-module _ (arities : List ℕ) (s : Summaries) (q : Rule ℕ) (bounds : Bounds arities s q) (rows : List (Subgoal (Term ℕ))) (good : Rows s rows)
+module _ (arities : List ℕ) (s : Summaries) (q : Rule ℕ) (bounds : Bounds arities s q) (rows : List (Subgoal (Term ℕ))) (good : RowsWithin s rows)
     (d r : ℕ) (hd : d < length rows) (hr : r < length rows) (lasts own b : List ℕ) (owned : length own ≡ length (inPlace s d (rowAt rows d))) where
   abbrev src : List (Subgoal (Term (Own ℕ)))
   src = inPlace s r (rowAt rows r)

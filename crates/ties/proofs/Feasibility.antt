@@ -17,7 +17,7 @@ use Rattle.frame.specs.Paying.{Bought, pays-bought, bought-pays, placed-paid}
 use Rattle.placing.specs.Task.{Task, Sized}
 use Rattle.placing.specs.Taking.{InRows}
 use Rattle.placing.specs.Mapped.{Mapped, Feasible}
-use Rattle.ties.specs.Bounds.{Bounds, Rows, HeadBound}
+use Rattle.ties.specs.Bounds.{Bounds, RowsWithin, HeadBound}
 use Rattle.ties.specs.Tasks.{thereTask}
 use Rattle.ties.proofs.AtWords.{map-get}
 use Rattle.ties.proofs.AtPlaces.{Indexed, places-indexed, indexed-places}
@@ -55,7 +55,7 @@ module _ (s : Summaries) (q : Rule ℕ) (rows : List (Subgoal (Term ℕ))) (plac
       long : length (map (each (becomes con value)) (q .body)) ≡ length (q .body)
       long = length-map (q .body) (each (becomes con value))
 
-module _ (arities : List ℕ) (s : Summaries) (q : Rule ℕ) (bounds : Bounds arities s q) (rows : List (Subgoal (Term ℕ))) (good : Rows s rows) (lasts b : List ℕ) where
+module _ (arities : List ℕ) (s : Summaries) (q : Rule ℕ) (bounds : Bounds arities s q) (rows : List (Subgoal (Term ℕ))) (good : RowsWithin s rows) (lasts b : List ℕ) where
   abbrev p : Task
   p = thereTask s q rows lasts (owners 0 (uses s 0 rows))
 

@@ -11,7 +11,7 @@ use Rattle.theory.specs.Held.{Every}
 use Rattle.theory.specs.Sound.{from-summaries}
 use Rattle.layout.specs.RuleLayout.{TermWithin, TermsWithin, RuleWithin}
 use Rattle.layout.specs.BookLayout.{Arities, SoundValue, SoundSummary, summaryMost}
-use Rattle.ties.specs.Bounds.{Bounds, Rows}
+use Rattle.ties.specs.Bounds.{Bounds, RowsWithin}
 use Rattle.ties.proofs.AtPlaces.{getD-in}
 
 sound-admitted : (b : Book) → SoundValue b → Every (admittedOf b) (λ r. (m : Summary) × SoundSummary (b .arities) m × (m .rule ≡ r))
@@ -45,5 +45,5 @@ module _ (arities : List ℕ) (s : Summaries) (q : Rule ℕ) (bounds : Bounds ar
           bounds .question .body (each (becomes con (y .yields .value)) (b .0)) (y .yields .holds (b .0) (b .1)) (y .yields .value x) (Memᴰ·map (becomes con (y .yields .value)) (b .2))
       one (con k) i = bounds .summaries (g .relation) (y .rule) (y .admitted) .head (con k) i
 
-  pub rows-bounds : (l : List (Subgoal (Term ℕ))) → ((g : Subgoal (Term ℕ)) → g ∈ l → SummaryRow s q g) → Rows s l
+  pub rows-bounds : (l : List (Subgoal (Term ℕ))) → ((g : Subgoal (Term ℕ)) → g ∈ l → SummaryRow s q g) → RowsWithin s l
   rows-bounds l rows = record { over = λ g m. let y = rows g m in (y .rule, y .admitted); within = λ g m. row-within g (rows g m) }

@@ -13,7 +13,7 @@ use Rattle.theory.specs.Fit.{FitEvery, fit-expansion}
 use Rattle.layout.specs.RuleLayout.{TermWithin, RuleWithin}
 use Rattle.layout.specs.BookLayout.{summaryMost}
 use Rattle.ties.specs.Codings.{OwnWithin}
-use Rattle.ties.specs.Bounds.{Bounds, Rows}
+use Rattle.ties.specs.Bounds.{Bounds, RowsWithin}
 
 -- A term of the use numbered u, within bounds.
 abbrev pub OfUse : ℕ → Term (Own ℕ) → Type 0
@@ -44,7 +44,7 @@ module _ (arities : List ℕ) (s : Summaries) (q : Rule ℕ) (bounds : Bounds ar
   fit-every : FitEvery arities s
   fit-every n r e = bounds .summaries n r e .fit
 
-  module _ (l : List (Subgoal (Term ℕ))) (rows : Rows s l) where
+  module _ (l : List (Subgoal (Term ℕ))) (rows : RowsWithin s l) where
     pub uses-fit : AllFit arities (joined (uses s 0 l))
     uses-fit = fit-expansion arities s fit-every (rewriting q l)
 
@@ -75,9 +75,9 @@ module _ (arities : List ℕ) (s : Summaries) (q : Rule ℕ) (bounds : Bounds ar
       pub use-few : (u : ℕ) → length (inPlace s u g) ≤ 8
       use-few u = omega (arith, length-map (definition s (g .relation) .body) (each (becomes con (inUse s u g))), within .few)
 
-  rows-tail : (g : Subgoal (Term ℕ)) (l : List (Subgoal (Term ℕ))) → Rows s (g ∷ l) → Rows s l
+  rows-tail : (g : Subgoal (Term ℕ)) (l : List (Subgoal (Term ℕ))) → RowsWithin s (g ∷ l) → RowsWithin s l
   rows-tail g l rows = record { over = λ h m. rows .over h (List·Memᴰ·tail m); within = λ h m. rows .within h (List·Memᴰ·tail m) }
 
-  pub uses-few : (u : ℕ) (l : List (Subgoal (Term ℕ))) → Rows s l → length (joined (uses s u l)) ≤ 8 * length l
+  pub uses-few : (u : ℕ) (l : List (Subgoal (Term ℕ))) → RowsWithin s l → length (joined (uses s u l)) ≤ 8 * length l
   uses-few u [] rows = omega arith
   uses-few u (g ∷ l) rows = omega (arith, length-append (inPlace s u g) (joined (uses s (suc u) l)), use-few (g ∷ l) rows g (List·Memᴰ·head refl) u, uses-few (suc u) l (rows-tail g l rows))

@@ -17,7 +17,7 @@ use Rattle.placing.specs.Task.{Task, Sized}
 use Rattle.placing.specs.Mapped.{Mapped}
 use Rattle.ties.specs.Coded.{In, Sent}
 use Rattle.ties.specs.Codings.{slotNaming, ownCoding, readOwn, OwnWithin, RuleSource}
-use Rattle.ties.specs.Bounds.{Bounds, Rows, HeadBound}
+use Rattle.ties.specs.Bounds.{Bounds, RowsWithin, HeadBound}
 use Rattle.ties.specs.Tasks.{thereTask}
 use Rattle.ties.proofs.Read.{read-own, own-solid}
 use Rattle.ties.proofs.Slots.{slots-sent}
@@ -31,7 +31,7 @@ pub record Into (s : Summaries) (q : Rule ℕ) (l : List (Subgoal (Term ℕ))) (
   pub gives : KeepsHead q value
   pub sends : AtPlaces (joined (uses s 0 l)) (map suc places) (map (each (becomes con value)) (q .body))
 
-module _ (arities : List ℕ) (s : Summaries) (q : Rule ℕ) (bounds : Bounds arities s q) (l : List (Subgoal (Term ℕ))) (rows : Rows s l) where
+module _ (arities : List ℕ) (s : Summaries) (q : Rule ℕ) (bounds : Bounds arities s q) (l : List (Subgoal (Term ℕ))) (rows : RowsWithin s l) where
   abbrev tgt : List (Subgoal (Term (Own ℕ)))
   tgt = joined (uses s 0 l)
 

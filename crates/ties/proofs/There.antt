@@ -4,20 +4,21 @@ use mathlib.Core.Logic.{_↔_}
 use mathlib.Core.List.{List, map}
 use Prim.Native.Nat.{ℕ, suc}
 use lib.ListN.{length}
-use Rattle.words.specs.Words.{Term, con, Subgoal, Rule, becomes, each}
-use Rattle.words.specs.Summaries.{Summaries, Own, uses, joined, rewriting}
+use Rattle.words.specs.Words.{Term, con, Subgoal, Rule, becomes, each, Mapping}
+use Rattle.words.specs.Summaries.{Summaries, Own, uses, joined, expansion, rewriting}
 use Rattle.words.specs.Answer.{AtPlaces, There, FirstThere}
 use Rattle.words.specs.Orders.{bytesOrder}
+use Rattle.words.specs.WitnessExists.{there-maps, maps-there}
 use Rattle.placing.specs.Task.{Task}
 use Rattle.placing.specs.Mapped.{Mapped, FirstMapped}
 use Rattle.ties.specs.Uses.{pairsOf}
-use Rattle.ties.specs.Bounds.{Bounds, Rows, HeadBound}
+use Rattle.ties.specs.Bounds.{Bounds, RowsWithin, HeadBound}
 use Rattle.ties.specs.Tasks.{thereTask}
 use Rattle.ties.proofs.Carried.{carried-is, carried-first, carried-none}
 use Rattle.ties.proofs.Pairs.{pairs-before, places-pairs, pairs-places}
 use Rattle.ties.proofs.Into.{Into, into-is}
 
-module _ (arities : List ℕ) (s : Summaries) (q : Rule ℕ) (bounds : Bounds arities s q) (l : List (Subgoal (Term ℕ))) (rows : Rows s l)
+module _ (arities : List ℕ) (s : Summaries) (q : Rule ℕ) (bounds : Bounds arities s q) (l : List (Subgoal (Term ℕ))) (rows : RowsWithin s l)
     (lasts own b : List ℕ) (owned : length own ≡ length (joined (uses s 0 l))) (head : HeadBound (q .head) b) where
   abbrev p : Task
   p = thereTask s q l lasts own
@@ -49,3 +50,10 @@ module _ (arities : List ℕ) (s : Summaries) (q : Rule ℕ) (bounds : Bounds ar
 
   pub there-none : ((places : List ℕ) → Mapped p b places → ⊥) ↔ ((bytes : List ℕ) → There s q (rewriting q l) bytes → ⊥)
   there-none = carried-none bytesOrder bytesOrder (pairsOf ls) (pairs-before ls) forth back
+
+  -- There are such places exactly if there is a containment mapping.
+  pub there-some : ((places : List ℕ) × Mapped p b places) ↔ Mapping q (expansion s (rewriting q l))
+  there-some = (
+    λ m. there-maps s q (rewriting q l) (pairsOf ls (m .0)) (forth (m .0) (m .1)),
+    λ m. let w = maps-there s q (rewriting q l) m in let t = back (w .0) (w .1 .holds) in (t .0, t .2),
+  )

@@ -21,7 +21,7 @@ pub record Bounds (arities : List ℕ) (s : Summaries) (q : Rule ℕ) : Type 0 w
   pub safe : AllSafe s
 
 -- Subgoals over admitted summaries, their terms within bounds. Summary rows are such.
-pub record Rows (s : Summaries) (l : List (Subgoal (Term ℕ))) : Type 0 where
+pub record RowsWithin (s : Summaries) (l : List (Subgoal (Term ℕ))) : Type 0 where
   pub over : (g : Subgoal (Term ℕ)) → g ∈ l → (r : Rule ℕ) × (summary s (g .relation) ≡ some r)
   pub within : (g : Subgoal (Term ℕ)) → g ∈ l → TermsWithin (g .terms)
 
