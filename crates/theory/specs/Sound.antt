@@ -29,7 +29,7 @@ abbrev pub ruleOf : ℕ → Summary → Option (Rule ℕ)
 ruleOf need m = ifTrue (admitted need (m .stamp) (m .rule)) (m .rule)
 
 -- Each admitted rule is that of one of the book's summaries.
-from-summaries : (need : ℕ) (ms : List Summary) (n : ℕ) (r : Rule ℕ) → summary (map (ruleOf need) ms) n ≡ some r → (m : Summary) × (m ∈ ms) × (m .rule ≡ r)
+pub from-summaries : (need : ℕ) (ms : List Summary) (n : ℕ) (r : Rule ℕ) → summary (map (ruleOf need) ms) n ≡ some r → (m : Summary) × (m ∈ ms) × (m .rule ≡ r)
 from-summaries need [] n r e = absurd (Option·none-ne-some r e)
 from-summaries need (m ∷ ms) zero r e = absurd (Option·none-ne-some r e)
 from-summaries need (m ∷ ms) (suc zero) r e = (m, List·Memᴰ·head refl, go (admitted need (m .stamp) (m .rule)) e)
