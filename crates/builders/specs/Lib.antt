@@ -1,0 +1,4 @@
+pub mod Codes
+pub mod Laid
+pub mod Standing
+pub mod Promises

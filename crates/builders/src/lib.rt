@@ -1,0 +1,3 @@
+// Rules' bytes, as accepted, turned into the words that the search reads.
+pub mod places; // counts, and the words of terms where they stand
+mod subgoals; // a body's subgoals, nine words each
