@@ -6,3 +6,4 @@ pub mod Walks
 pub mod SoFar
 pub mod NineSteps
 pub mod WalkSteps
+pub mod TableSteps

@@ -1,10 +1,13 @@
 -- Words stored one after the other: into an area from a place on, and at the front of an area.
 use mathlib.Core.Path.{_≡_, refl, sym, ap, ap₂, _∙_}
+use mathlib.Core.Bool.{Bool, true, false, cond}
 use mathlib.Core.List.{List, [], _∷_, _++_, append-nil}
 use Prim.Native.Nat.{ℕ, zero, suc, _+_, _<_, _≤_}
 use native.Mathlib.Omega.{arith}
 use lib.ListN.{length, getD, take, drop, set, length-append, length-drop, drop-of-length-le}
-use lib.Seq.{sets, sets-eq, take-suc, take-all, length-take-le, take-append-seam, drop-append-add, drop-drop}
+use lib.Seq.{sets, sets-eq, take-suc, take-all, length-take-le, take-append-seam, drop-append-add, drop-drop, getD-set-same, getD-set-other}
+use lib.Dec.{eqb}
+use borrow.Author.Tests.{eqb-true, eqb-false}
 use Rattle.builders.specs.Codes.{atFront}
 
 -- one store more
@@ -38,3 +41,11 @@ front-more front words all h =
 
 pub front-length : (front all : List ℕ) → length front ≤ length all → length (atFront front all) ≡ length all
 front-length front all h = omega (arith, length-append front (drop (length front) all), length-drop (length front) all)
+
+-- what stands at a place after a store
+pub after-store : (l : List ℕ) (i v x : ℕ) → i < length l → getD (set l i v) x 0 ≡ cond (eqb i x) v (getD l x 0)
+after-store l i v x h = go (eqb i x) refl
+  where
+    go : (b : Bool) → eqb i x ≡ b → getD (set l i v) x 0 ≡ cond b v (getD l x 0)
+    go true e = let same : i ≡ x = eqb-true i x e in rw (sym same) (getD-set-same l i v 0 h)
+    go false e = getD-set-other l i x v 0 (λ q. eqb-false i x e (sym q))

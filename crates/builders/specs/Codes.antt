@@ -16,6 +16,10 @@ abbrev pub based : ℕ → Term ℕ → ℕ
 based base (var x) = base + x
 based base (con c) = constantTag + c
 
+-- the same of a variable's number
+abbrev pub counted : ℕ → ℕ → ℕ
+counted base x = base + x
+
 -- In a use the list's variables count from one base, and the use's own from another.
 abbrev pub basedUse : ℕ → ℕ → Term (Own ℕ) → ℕ
 basedUse olds base (var (old x)) = olds + x

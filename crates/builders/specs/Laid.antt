@@ -4,7 +4,7 @@ use mathlib.Core.List.{List, map}
 use Prim.Native.Nat.{ℕ, _*_, _≤_}
 use lib.ListN.{length, take}
 use Rattle.words.specs.Words.{Term, Rule, DistinctVariables}
-use Rattle.layout.specs.RuleLayout.{Layout}
+use Rattle.layout.specs.RuleLayout.{TermsWithin, Layout}
 use Rattle.coding.specs.Code.{termCode}
 
 -- A rule over some relations.
@@ -21,17 +21,25 @@ pub record LaidFor (arities bytes : List ℕ) (each area : ℕ) : Type 0 where
   pub layout : Layout arities most bytes rule
   pub room : each * length (rule .body) ≤ area
 
--- The terms' words stand at the front of the row.
-pub record RowOf (row : List ℕ) (ts : List (Term ℕ)) : Type 0 where
+-- A use of a summary: the bytes are the summary's, and the row has the words of as many terms as its head.
+pub record UseOf (arities bytes row : List ℕ) (v : Rule ℕ) (ts : List (Term ℕ)) : Type 0 where
+  pub most : ℕ
+  pub layout : Layout arities most bytes v
+  pub plain : DistinctVariables (v .head)
+  pub long : length ts ≡ length (v .head)
+  pub within : TermsWithin ts
   pub words : take (length ts) row ≡ map termCode ts
 
--- A summary, and as many terms as its head has.
-pub record LaidUse (arities bytes row : List ℕ) (area : ℕ) : Type 0 where
-  pub most : ℕ
+-- Some use, over some relations.
+pub record SomeUse (bytes row : List ℕ) : Type 0 where
+  pub arities : List ℕ
   pub rule : Rule ℕ
-  pub layout : Layout arities most bytes rule
-  pub plain : DistinctVariables (rule .head)
   pub terms : List (Term ℕ)
-  pub long : length terms ≡ length (rule .head)
-  pub words : RowOf row terms
+  pub is : UseOf arities bytes row rule terms
+
+-- Some use over these relations, and room in an area for its nine words a subgoal.
+pub record UseFor (arities bytes row : List ℕ) (area : ℕ) : Type 0 where
+  pub rule : Rule ℕ
+  pub terms : List (Term ℕ)
+  pub is : UseOf arities bytes row rule terms
   pub room : 9 * length (rule .body) ≤ area

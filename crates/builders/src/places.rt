@@ -6,8 +6,10 @@ ghost use Rattle.builders.specs.Laid.{Laid};
 ghost use Rattle.builders.specs.Promises.{HeadCount, GoalCount};
 ghost use Rattle.builders.specs.Standing.{SomeTerm, SomeTerms, WordAt, PaddedAt};
 
-// A constant's tag, in units of 2^32.
-const CONSTANT: u64 = 8589934592;
+// The tags of a variable and of a constant, in units of 2^32.
+pub(crate) const VARIABLE: u64 = 4294967296;
+
+pub(crate) const CONSTANT: u64 = 8589934592;
 
 // The word where a subgoal's terms have ended.
 const NONE: u64 = 1;
