@@ -7,3 +7,5 @@ pub mod SoFar
 pub mod NineSteps
 pub mod WalkSteps
 pub mod TableSteps
+pub mod CodeLaws
+pub mod UseLaws

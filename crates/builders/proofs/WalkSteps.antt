@@ -7,8 +7,9 @@ use native.Mathlib.Omega.{arith}
 use lib.ListN.{length, getD, set}
 use Rattle.words.specs.Words.{Rule}
 use Rattle.layout.specs.RuleLayout.{Layout}
+use Rattle.builders.specs.Codes.{tabled}
 use Rattle.builders.specs.Laid.{LaidFor}
-use Rattle.builders.specs.Promises.{HeadCount, GoalCount, Words, Widths}
+use Rattle.builders.specs.Promises.{HeadCount, GoalCount, BodyWords, BodyWidths}
 use Rattle.builders.specs.Standing.{SomeGoal, NineAt}
 use Rattle.builders.proofs.Walks.{Ahead, Next, next-goal}
 use Rattle.builders.proofs.SoFar.{Writing, Stored, SoFar, so-long, so-ends, asWidths, byTable}
@@ -56,13 +57,13 @@ module _ {arities bytes before after : List ℕ} {n i : ℕ} (count : GoalCount 
   pub walk-long : (a : Writing) → LaidFor arities bytes (a .size) (length before) → i ≤ n → SoFar a arities bytes before i after → length after ≡ length before
   walk-long a w h s = so-long a arities bytes before w i after s (let same = count .is arities (w .most) (w .rule) (w .layout) in omega arith)
 
-  pub widths-end : n ≤ i → SoFar asWidths arities bytes before i after → Widths arities bytes before after n
+  pub widths-end : n ≤ i → SoFar asWidths arities bytes before i after → BodyWidths arities bytes before after n
   widths-end h s = record {
     count = λ m r l. count .is arities m r l;
     widths = λ m r l. so-ends asWidths arities bytes before i after s m r l (let same = count .is arities m r l in omega arith);
   }
 
-  pub words-end : (table : List ℕ) → n ≤ i → SoFar (byTable table) arities bytes before i after → Words arities bytes table before after n
+  pub words-end : (table : List ℕ) → n ≤ i → SoFar (byTable table) arities bytes before i after → BodyWords arities bytes (tabled table) before after n
   words-end table h s = record {
     count = λ m r l. count .is arities m r l;
     words = λ m r l. so-ends (byTable table) arities bytes before i after s m r l (let same = count .is arities m r l in omega arith);

@@ -2,8 +2,9 @@
 ghost use mathlib.Core.Path.{_≡_};
 ghost use Prim.Native.Nat.{ℕ, _+_, _*_, _<_, _≤_};
 ghost use lib.ListN.{length, getD};
+ghost use Rattle.builders.specs.Codes.{tabled};
 ghost use Rattle.builders.specs.Laid.{LaidFor};
-ghost use Rattle.builders.specs.Promises.{Words, Widths};
+ghost use Rattle.builders.specs.Promises.{BodyWords, BodyWidths};
 ghost use Rattle.builders.specs.Standing.{SomeGoal, NineAt};
 use super::places::goal_count;
 use super::places::head_count;
@@ -39,7 +40,7 @@ pub(crate) fn put_subgoals(
     out: &mut [u64],
 ) -> usize
     requires { ⌜ LaidFor (now relations) (now body) 9 (length (now out)) ⌝ }
-    ensures { λ r. ⌜ Words (now (relations .entry)) (now (body .entry)) (now (table .entry)) (now (out .entry)) (now (out .exit)) r ⌝ }
+    ensures { λ r. ⌜ BodyWords (now (relations .entry)) (now (body .entry)) (tabled (now (table .entry))) (now (out .entry)) (now (out .exit)) r ⌝ }
 {
     let goals = goal_count(body);
     let mut at = 2 + 5 * head_count(body);
@@ -56,7 +57,7 @@ pub(crate) fn put_subgoals(
 // How many terms each subgoal has, at the front of `widths`. Returns how many subgoals there are.
 pub(crate) fn put_widths(body: &[u8], relations: &[u8], widths: &mut [u8]) -> usize
     requires { ⌜ LaidFor (now relations) (now body) 1 (length (now widths)) ⌝ }
-    ensures { λ r. ⌜ Widths (now (relations .entry)) (now (body .entry)) (now (widths .entry)) (now (widths .exit)) r ⌝ }
+    ensures { λ r. ⌜ BodyWidths (now (relations .entry)) (now (body .entry)) (now (widths .entry)) (now (widths .exit)) r ⌝ }
 {
     let goals = goal_count(body);
     let mut at = 2 + 5 * head_count(body);
