@@ -6,31 +6,15 @@ use Prim.Native.Nat.{ℕ, zero, suc, _+_, _*_, _≤_, _<_}
 use native.Mathlib.Omega.{arith}
 use lib.ListN.{length, getD, take, drop, length-append, length-drop}
 use lib.Seq.{drop-drop, drop-append-add, getD-drop}
-use Rattle.words.specs.Words.{_∈_, Term, var, con, Subgoal, Rule}
+use Rattle.words.specs.Words.{Term, var, con, Subgoal, Rule}
 use Rattle.words.specs.Summaries.{place, joined}
 use Rattle.layout.specs.Numbers.{little, numberAt}
-use Rattle.layout.specs.RuleLayout.{termBytes, termsBytes, subgoalBytes, subgoalsBytes, ruleBytes, TermWithin, Layout}
+use Rattle.layout.specs.RuleLayout.{termBytes, termsBytes, subgoalBytes, subgoalsBytes, ruleBytes, TermWithin, TermsWithin, Layout}
+use Rattle.layout.specs.Standing.{tagOf, numberOf, TermAt, TermsAt}
 use Rattle.layout.proofs.NumberLaws.{value-little}
 use Rattle.layout.proofs.Places.{place-in, place-drop, place-less}
 use Rattle.layout.proofs.Sizes.{term-size, terms-size, rule-parts}
-use Rattle.layout.proofs.Starts.{startOf, start-next, start-end, drop-parts}
-
--- "A term: one byte 0 (variable) or 1 (constant), then four bytes."
-abbrev pub tagOf : Term ℕ → ℕ
-tagOf (var x) = 0
-tagOf (con c) = 1
-
-abbrev pub numberOf : Term ℕ → ℕ
-numberOf (var x) = x
-numberOf (con c) = c
-
--- The term stands at that place of the bytes.
-pub record TermAt (bytes : List ℕ) (at : ℕ) (t : Term ℕ) : Type 0 where
-  pub within : TermWithin t
-  pub room : at + 5 ≤ length bytes
-  pub five : take 5 (drop at bytes) ≡ termBytes t
-  pub tag : getD bytes at 0 ≡ tagOf t
-  pub number : numberAt 4 bytes (at + 1) ≡ numberOf t
+use Rattle.layout.proofs.Starts.{startOf, start-next, start-within, start-end, drop-parts}
 
 -- Where subgoal j begins, and where the rule ends if there are j: two counts, the head's terms and the subgoals before it.
 unfoldable pub goalStart : Rule ℕ → ℕ → ℕ
@@ -77,13 +61,12 @@ drop-terms ts rest zero h = refl
 drop-terms [] rest (suc i) h = absurd (omega arith)
 drop-terms (t ∷ ts) rest (suc i) h = rw (append-assoc (termBytes t) (termsBytes ts) rest, past-term t i) (drop-terms ts rest i (omega arith))
 
--- The terms stand one after the other from `at` on.
-term-among : (bytes : List ℕ) (at : ℕ) (ts : List (Term ℕ)) (rest : List ℕ) → drop at bytes ≡ termsBytes ts ++ rest → ((t : Term ℕ) → t ∈ ts → TermWithin t)
-    → (i : ℕ) (t : Term ℕ) → place ts (suc i) ≡ some t → TermAt bytes (at + 5 * i) t
-term-among bytes at ts rest e within i t p = term-here bytes (at + 5 * i) (termsBytes (drop (suc i) ts) ++ rest) t here (within t (place-in ts (suc i) t p))
+terms-here : (bytes : List ℕ) (at : ℕ) (ts : List (Term ℕ)) (rest : List ℕ) → drop at bytes ≡ termsBytes ts ++ rest → TermsWithin ts → TermsAt bytes at ts
+terms-here bytes at ts rest e within =
+    record { term = λ i t p. term-here bytes (at + 5 * i) (termsBytes (drop (suc i) ts) ++ rest) t (here i t p) (within t (place-in ts (suc i) t p)) }
   where
-    here : drop (at + 5 * i) bytes ≡ termBytes t ++ (termsBytes (drop (suc i) ts) ++ rest)
-    here =
+    here : (i : ℕ) (t : Term ℕ) → place ts (suc i) ≡ some t → drop (at + 5 * i) bytes ≡ termBytes t ++ (termsBytes (drop (suc i) ts) ++ rest)
+    here i t p =
         sym (drop-drop (5 * i) at bytes)
         ∙ ap (drop (5 * i)) e
         ∙ drop-terms ts rest i (let less = place-less ts i t p in omega arith)
@@ -99,8 +82,8 @@ module _ {arities : List ℕ} {most : ℕ} {bytes : List ℕ} {r : Rule ℕ} (l 
   goal-count = rw (sym (l .written))
 
   -- ".. the head's terms"
-  pub head-term : (i : ℕ) (t : Term ℕ) → place (r .head) (suc i) ≡ some t → TermAt bytes (2 + 5 * i) t
-  head-term = term-among bytes 2 (r .head) (subgoalsBytes (r .body)) (rw (sym (l .written))) (l .within .head)
+  pub head-terms : TermsAt bytes 2 (r .head)
+  head-terms = terms-here bytes 2 (r .head) (subgoalsBytes (r .body)) (rw (sym (l .written))) (l .within .head)
 
   -- ".. then each subgoal": the first after the head's terms, each where the one before it ends, the last at the end of the bytes
   pub first-start : goalStart r 0 ≡ 2 + 5 * length (r .head)
@@ -115,6 +98,10 @@ module _ {arities : List ℕ} {most : ℕ} {bytes : List ℕ} {r : Rule ℕ} (l 
   unfolding goalStart
   last-start = rw (sym (l .written)) (omega (arith, start-end subgoalBytes (2 + 5 * length (r .head)) (r .body), rule-parts r))
 
+  pub start-bound : (j : ℕ) → goalStart r j ≤ length bytes
+  unfolding goalStart
+  start-bound j = rw (sym (l .written)) (omega (arith, start-within subgoalBytes (2 + 5 * length (r .head)) (r .body) j, rule-parts r))
+
   module _ (j : ℕ) (g : Subgoal (Term ℕ)) (p : place (r .body) (suc j) ≡ some g) where
     -- "one byte relation number, its terms"
     goal-here : drop (goalStart r j) bytes ≡ g .relation ∷ termsBytes (g .terms) ++ subgoalsBytes (drop (suc j) (r .body))
@@ -127,5 +114,5 @@ module _ {arities : List ℕ} {most : ℕ} {bytes : List ℕ} {r : Rule ℕ} (l 
     pub goal-relation : getD bytes (goalStart r j) 0 ≡ g .relation
     goal-relation = at-front bytes (goalStart r j) (g .relation) (termsBytes (g .terms) ++ subgoalsBytes (drop (suc j) (r .body))) goal-here
 
-    pub goal-term : (a : ℕ) (t : Term ℕ) → place (g .terms) (suc a) ≡ some t → TermAt bytes (goalStart r j + 1 + 5 * a) t
-    goal-term = term-among bytes (goalStart r j + 1) (g .terms) (subgoalsBytes (drop (suc j) (r .body))) (rw (← drop-drop 1 (goalStart r j) bytes, goal-here)) (l .within .body g (place-in (r .body) (suc j) g p))
+    pub goal-terms : TermsAt bytes (goalStart r j + 1) (g .terms)
+    goal-terms = terms-here bytes (goalStart r j + 1) (g .terms) (subgoalsBytes (drop (suc j) (r .body))) (rw (← drop-drop 1 (goalStart r j) bytes, goal-here)) (l .within .body g (place-in (r .body) (suc j) g p))

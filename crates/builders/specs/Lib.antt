@@ -1,0 +1,5 @@
+pub mod Codes
+pub mod Laid
+pub mod Standing
+pub mod Tables
+pub mod Promises
