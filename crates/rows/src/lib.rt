@@ -1,0 +1,1 @@
+// The rows of one summary, in order, by the search.
