@@ -11,7 +11,7 @@ use lib.Seq.{getD-set-same, getD-set-other}
 use lib.Dec.{ltb}
 use borrow.Author.Tests.{lt-ltb, le-ltb, ltb-true, ltb-false}
 use Rattle.placing.specs.Task.{Task, widthOf, sourceTerm, targetTerm, valueOf, Agrees, Extends}
-use Rattle.rows.specs.RowPlaces.{binding, fixing}
+use Rattle.rows.specs.Steps.{binding, fixing}
 
 value-slot : (v : ℕ → ℕ) (x : ℕ) → x < 64 → valueOf v x ≡ v x
 unfolding valueOf

@@ -12,7 +12,8 @@ use Rattle.placing.specs.Task.{Task, goals, targets, targetTerm, Agrees, Comple
 use Rattle.placing.specs.Mapped.{Mapped, laid}
 use Rattle.placing.specs.Answer.{FromOn, Completion, PlacesFrom}
 use Rattle.placing.specs.declared.Places.{Places}
-use Rattle.rows.specs.RowPlaces.{Ready, RowPlaces, LaterPlaces, NextPlaces, fixing}
+use Rattle.rows.specs.RowPlaces.{HeadTask, RowPlaces, LaterPlaces}
+use Rattle.rows.specs.Steps.{fixing}
 use Rattle.rows.proofs.Fronts.{front-same, front-before, front-split, front-order, split-later}
 use Rattle.rows.proofs.OneUse.{Stands, StandFrom, stand-at, stand-drop, stand-join, completes-stand, stand-completes, mapped-stand, stand-mapped}
 use Rattle.rows.proofs.Fixing.{AgreeTo, fixing-forced, fixing-fits}
@@ -22,7 +23,7 @@ pub Gone : Task → ℕ → List ℕ → ℕ → Type 0
 Gone p h ks j = (js : List ℕ) → RowPlaces p h js → take j (take h ks) ≡ take j js → ListBefore _<_ (drop j (take h ks)) (drop j js) → ⊥
 
 -- Where a row is, its values and its places.
-module _ (p : Task) (h : ℕ) (ready : Ready p h) (js : List ℕ) (y : RowPlaces p h js) where
+module _ (p : Task) (h : ℕ) (ready : HeadTask p h) (js : List ℕ) (y : RowPlaces p h js) where
   abbrev whole : List ℕ
   whole = js ++ y .rest
 
@@ -45,7 +46,7 @@ from-first from [] f n m o k x b = absurd (omega arith)
 from-first from (y ∷ l) f zero m o k x b = absurd (omega arith)
 from-first from (y ∷ l) f (suc n) m o k x b = inl (omega arith)
 
-module _ (p : Task) (h : ℕ) (ready : Ready p h) (ks : List ℕ) (long : length ks ≡ 96) where
+module _ (p : Task) (h : ℕ) (ready : HeadTask p h) (ks : List ℕ) (long : length ks ≡ 96) where
   front-long : length (take h ks) ≡ h
   front-long = length-take-le h ks (omega (arith, ready .short))
 

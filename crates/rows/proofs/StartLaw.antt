@@ -12,7 +12,7 @@ use Rattle.placing.specs.Task.{Task, goals}
 use Rattle.placing.specs.Mapped.{Mapped}
 use Rattle.placing.specs.Answer.{FromOn, Completion, PlacesFrom}
 use Rattle.placing.specs.declared.Places.{Places}
-use Rattle.rows.specs.RowPlaces.{Ready, RowPlaces}
+use Rattle.rows.specs.RowPlaces.{HeadTask, RowPlaces}
 use Rattle.rows.proofs.Fronts.{front-order}
 use Rattle.rows.proofs.OneUse.{StandFrom, completes-stand, stand-completes, mapped-stand, stand-mapped}
 use Rattle.rows.proofs.Fixing.{nothing-bound}
@@ -21,7 +21,7 @@ from-any : (l : List ℕ) → FromOn 0 l
 from-any [] = tt
 from-any (k ∷ l) = omega arith
 
-module _ (p : Task) (h : ℕ) (ready : Ready p h) (r : Places) (answer : PlacesFrom p 0 (replicate 64 0) 0 r) where
+module _ (p : Task) (h : ℕ) (ready : HeadTask p h) (r : Places) (answer : PlacesFrom p 0 (replicate 64 0) 0 r) where
   -- a row's mapping completes bindings with nothing bound
   completion : (js : List ℕ) (y : RowPlaces p h js) → Completion p 0 (replicate 64 0) 0 (js ++ y .rest)
   completion js y =

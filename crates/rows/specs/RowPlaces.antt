@@ -1,17 +1,16 @@
 -- Rows by the places of the head: the first few source subgoals of a task of one use are the head's places, and the targets of these are terms in ascending order.
 use mathlib.Core.Path.{_≡_}
-use mathlib.Core.Bool.{Bool, true, false, cond}
-use mathlib.Core.List.{List, [], _∷_, _++_}
-use Prim.Native.Nat.{ℕ, zero, suc, _+_, _*_, _<_, _≤_}
-use lib.ListN.{length, getD, set, take, replicate}
-use lib.Dec.{ltb}
+use mathlib.Core.Bool.{true, false}
+use mathlib.Core.List.{List, [], _++_}
+use Prim.Native.Nat.{ℕ, _<_, _≤_}
+use lib.ListN.{length, take}
 use Rattle.words.specs.Order.{ListBefore, First}
 use Rattle.placing.specs.Task.{Task, Sized, goals, widthOf, lastOf}
 use Rattle.placing.specs.Mapped.{Mapped}
 use Rattle.placing.specs.declared.Places.{Places}
 
--- What a task of rows is: one use, and the first h source subgoals have one term each.
-pub record Ready (p : Task) (h : ℕ) : Type 0 where
+-- A task of rows: one use, and the first h source subgoals have one term each.
+pub record HeadTask (p : Task) (h : ℕ) : Type 0 where
   pub sized : Sized p
   pub oneUse : (i : ℕ) → lastOf p i ≡ 0
   pub single : (i : ℕ) → i < h → widthOf p i ≡ 1
@@ -35,11 +34,7 @@ pub record NextPlaces (p : Task) (h : ℕ) (ks : List ℕ) (r : Places) : Type 0
   pub found : r .ok ≡ true → First (LaterPlaces p h ks) (ListBefore _<_) (take h (r .ks))
   pub none : r .ok ≡ false → (js : List ℕ) → LaterPlaces p h ks js → ⊥
 
--- the bindings with the word y for the source term x, if that is a slot
-abbrev pub binding : List ℕ → ℕ → ℕ → List ℕ
-binding g x y = cond (ltb x 64) (set g x y) g
-
--- the bindings that put the first j source subgoals, of one term each, on the targets ks
-unfoldable pub fixing : List ℕ → List ℕ → List ℕ → ℕ → List ℕ
-fixing source target ks zero = replicate 64 0
-fixing source target ks (suc j) = binding (fixing source target ks j) (getD source (9 * j + 1) 0) (getD target (9 * getD ks j 0 + 1) 0)
+-- ks begins with a row's places
+pub record AtRow (p : Task) (h : ℕ) (ks : List ℕ) : Type 0 where
+  pub task : HeadTask p h
+  pub row : RowPlaces p h (take h ks)
