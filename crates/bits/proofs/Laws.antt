@@ -7,13 +7,9 @@ use native.Mathlib.Decide.{decLt}
 use native.Mathlib.Nat.{two-pow-succ, div-eq-of-lt}
 use mathlib.Core.Bool.{Bool, true, false}
 use borrow.Author.Tests.{eqb-true, eq-eqb}
-use lib.Bits.{bitOr, or-step, or-shr, or-comm, or-zero-l, shifted-even}
-use lib.Pow.{shl-shr, shl-exact, shr-shr, shr-le, pow-add, pow-lt}
-use Rattle.bits.specs.Sets.{Has, has, with, Within}
-
 use lib.Bits.{bitOr, bitAnd, or-step, or-shr, or-comm, or-zero-l, and-step, and-shr}
 use lib.Pow.{shl-shr, shl-exact, shr-shr, shr-le, pow-add, pow-lt, field, mod-mod-pow, ones-split, high, ones-lt}
-use Rattle.bits.specs.Sets.{Has, has, with, below32}
+use Rattle.bits.specs.Sets.{Has, has, with, below32, Within}
 
 pub has-true : (set x : ℕ) → has set x ≡ true → Has set x
 unfolding has Has
@@ -133,17 +129,6 @@ and-apart-below (suc k) a b l h =
     let ih : bitAnd (a / 2) (b / 2) ≡ 0 = and-apart-below k (a / 2) (b / 2) (omega arith) (λ x q r. h (suc x) (half-has a x .0 q) (half-has b x .0 r)) in
     rw (and-step a b, ih) (omega (arith, bit (a % 2) (b % 2) (omega arith) (omega arith) (λ e f. h 0 (omega arith) (omega arith))))
   where
-    below : (n : ℕ) → n < 2 ^ n
-    below zero = omega arith
-    below (suc n) = let p = two-pow-succ n in omega (arith, below n)
-
--- two answers on whether a set lies within another are the same
-pub within-once : (a b : ℕ) (r s : Bool) → Within a b r → Within a b s → r ≡ s
-within-once a b true true p q = refl
-within-once a b true false p q = sym (q .exactly .1 (p .exactly .0 refl))
-within-once a b false true p q = p .exactly .1 (q .exactly .0 refl)
-within-once a b false false p q = refl
-
     bit : (m n : ℕ) → m < 2 → n < 2 → (m ≡ 1 → n ≡ 1 → ⊥) → min m n ≡ 0
     bit zero n h k f = omega arith
     bit (suc m) zero h k f = omega arith
@@ -170,3 +155,10 @@ all-has x h =
     let s : 2 ^ (suc (63 - x) + x) - 1 ≡ (2 ^ suc (63 - x) - 1) * 2 ^ x + (2 ^ x - 1) = ones-split (suc (63 - x)) x in
     let q : 18446744073709551615 / 2 ^ x ≡ 2 ^ suc (63 - x) - 1 = ap (λ n. n / 2 ^ x) (rw j at s) ∙ high (2 ^ suc (63 - x) - 1) x (ones-lt x) in
     rw q (omega (arith, two-pow-succ (63 - x), ones-lt (63 - x)))
+
+-- two answers on whether a set lies within another are the same
+pub within-once : (a b : ℕ) (r s : Bool) → Within a b r → Within a b s → r ≡ s
+within-once a b true true p q = refl
+within-once a b true false p q = sym (q .exactly .1 (p .exactly .0 refl))
+within-once a b false true p q = p .exactly .1 (q .exactly .0 refl)
+within-once a b false false p q = refl

@@ -1,0 +1,11 @@
+pub mod Fronts
+pub mod OneUse
+pub mod Fixing
+pub mod NextLaw
+pub mod StartLaw
+pub mod TaskLaws
+pub mod AtTerms
+pub mod RowTies
+pub mod RowOrder
+pub mod Copying
+pub mod RowWords

@@ -1,0 +1,48 @@
+-- The words of a row, one by one, and as the words of a subgoal over terms.
+use mathlib.Core.Path.{_≡_, refl, sym, ap, ap₂, _∙_}
+use mathlib.Core.List.{List, [], _∷_, _++_, map}
+use Prim.Native.Nat.{ℕ, zero, suc, _+_, _*_, _-_, _<_, _≤_}
+use native.Mathlib.Omega.{arith}
+use lib.ListN.{length, getD, take, length-map}
+use lib.Seq.{length-take-le, getD-take}
+use Rattle.coding.specs.Code.{padded}
+use Rattle.ties.proofs.AtWords.{padded-long}
+use Rattle.rows.specs.Steps.{rowWords}
+
+padded-in : (f : ℕ → ℕ) (n : ℕ) (l : List ℕ) (i : ℕ) → i < n → i < length l → getD (padded n (map f l)) i 0 ≡ f (getD l i 0)
+padded-in f zero l i h m = absurd (omega arith)
+padded-in f (suc n) [] i h m = absurd (omega arith)
+padded-in f (suc n) (x ∷ l) zero h m = refl
+padded-in f (suc n) (x ∷ l) (suc i) h m = padded-in f n l i (omega arith) (omega arith)
+
+padded-past : (n : ℕ) (l : List ℕ) (i : ℕ) → i < n → length l ≤ i → getD (padded n l) i 0 ≡ 1
+padded-past zero l i h m = absurd (omega arith)
+padded-past (suc n) [] zero h m = refl
+padded-past (suc n) [] (suc i) h m = padded-past n [] i (omega arith) (omega arith)
+padded-past (suc n) (x ∷ l) zero h m = absurd (omega arith)
+padded-past (suc n) (x ∷ l) (suc i) h m = padded-past n l i (omega arith) (omega arith)
+
+module _ (number : ℕ) (target : List ℕ) where
+  pub row-long : (js : List ℕ) → length (rowWords number target js) ≡ 9
+  unfolding rowWords
+  row-long js = ap suc (padded-long 8 (map (λ k. getD target (9 * k + 1) 0) js))
+
+  pub word-number : (js : List ℕ) (i : ℕ) → i ≡ 0 → number ≡ getD (rowWords number target js) i 0
+  unfolding rowWords
+  word-number js i e = rw e
+
+  module _ (ks : List ℕ) (h : ℕ) (long : length ks ≡ 96) (short : h ≤ 8) where
+    front-long : length (take h ks) ≡ h
+    front-long = length-take-le h ks (omega arith)
+
+    pub word-term : (i : ℕ) → (i ≡ 0 → ⊥) → i ≤ h → getD target (9 * getD ks (i - 1) 0 + 1) 0 ≡ getD (rowWords number target (take h ks)) i 0
+    unfolding rowWords
+    word-term zero n l = absurd (n refl)
+    word-term (suc i) n l =
+        let e : suc i - 1 ≡ i = omega arith in
+        rw (e, ← (getD-take h ks i 0 (omega arith))) (sym (padded-in (λ k. getD target (9 * k + 1) 0) 8 (take h ks) i (omega arith) (omega (arith, front-long))))
+
+    pub word-past : (i : ℕ) → i < 9 → h < i → 1 ≡ getD (rowWords number target (take h ks)) i 0
+    unfolding rowWords
+    word-past zero o l = absurd (omega arith)
+    word-past (suc i) o l = sym (padded-past 8 (map (λ k. getD target (9 * k + 1) 0) (take h ks)) i (omega arith) (omega (arith, front-long, length-map (take h ks) (λ k. getD target (9 * k + 1) 0))))

@@ -1,0 +1,4 @@
+pub mod RowTask
+pub mod RowPlaces
+pub mod Steps
+pub mod RowsAfter
