@@ -10,7 +10,7 @@ use Rattle.words.specs.Summaries.{Summaries, Own, old, uses, joined}
 use Rattle.words.specs.Answer.{AtPlaces}
 use Rattle.words.specs.Counted.{place-in}
 use Rattle.theory.specs.Places.{used}
-use Rattle.frame.specs.Placed.{KeepsHead}
+use Rattle.frame.specs.Numbered.{keptHead}
 use Rattle.frame.specs.Placing.{keeps-head}
 use Rattle.coding.specs.Code.{ownCode}
 use Rattle.placing.specs.Task.{Task, Sized}
@@ -28,7 +28,7 @@ use Rattle.ties.proofs.InUse.{of-use-within, use-terms, uses-fit, uses-
 -- Values that send the question's subgoals to those of the uses at the places, head to head.
 pub record Into (s : Summaries) (q : Rule ℕ) (l : List (Subgoal (Term ℕ))) (places : List ℕ) : Type 0 where
   pub value : ℕ → Term (Own ℕ)
-  pub gives : KeepsHead q value
+  pub gives : map (becomes con value) (q .head) ≡ keptHead q
   pub sends : AtPlaces (joined (uses s 0 l)) (map suc places) (map (each (becomes con value)) (q .body))
 
 module _ (arities : List ℕ) (s : Summaries) (q : Rule ℕ) (bounds : Bounds arities s q) (l : List (Subgoal (Term ℕ))) (rows : RowsWithin s l) where
