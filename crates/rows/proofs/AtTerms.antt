@@ -100,7 +100,7 @@ stand-before ts r (i ∷ l) (k ∷ m) (x ∷ xs) (y ∷ ys) s t (inr h) = inr (O
 pub before-stand : (ts : List (Term ℕ)) → Rising TermBefore ts → (l m : List ℕ) (xs ys : List (Term ℕ)) → Stand ts l xs → Stand ts m ys → ListBefore TermBefore xs ys → ListBefore _<_ l m
 before-stand ts r l m xs ys s t h = ⊎-elim (λ a. a)
     (⊎-elim (λ e. absurd (order .never xs (subst (ListBefore TermBefore xs) (sym (stand-same ts l xs ys s (subst (λ n. Stand ts n ys) (sym e) t))) h)))
-      (λ b. absurd (one-way order xs ys h (stand-before ts r m l ys xs t s b))))
+    (λ b. absurd (one-way order xs ys h (stand-before ts r m l ys xs t s b))))
     (bytesOrder .compare l m)
   where
     order : Strict (ListBefore TermBefore)

@@ -5,6 +5,8 @@ ghost use lib.ListN.{length, take, drop, getD};
 ghost use lib.Seq.{sets};
 ghost use Rattle.writing.specs.Bytes.{tagOf, wordBytes, wordsBytes, rowBytes, rowsBytes, Rows, rewritingBytes, Writable};
 
+pub mod witness; // the witness's two parts
+
 // 0 for a variable's word, 1 for a constant's.
 fn tag_byte(word: u64) -> u8
     ensures { λ r. ⌜ r ≡ tagOf word ⌝ }
