@@ -26,7 +26,7 @@ terms-mean : (ts : List (Term ℕ)) → TermsWithin ts → wordsBytes (map termC
 terms-mean [] h = refl
 terms-mean (t ∷ ts) h = ap₂ _++_ (term-means t (h t (List·Memᴰ·head refl))) (terms-mean ts (λ s m. h s (List·Memᴰ·tail m)))
 
-padded-long : (n : ℕ) (l : List ℕ) → length (padded n l) ≡ n
+pub padded-long : (n : ℕ) (l : List ℕ) → length (padded n l) ≡ n
 padded-long zero l = refl
 padded-long (suc n) [] = ap suc (padded-long n [])
 padded-long (suc n) (x ∷ l) = ap suc (padded-long n l)
