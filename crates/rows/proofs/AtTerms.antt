@@ -67,7 +67,7 @@ module _ (body : List (Subgoal (Term ℕ))) where
   front-place (t ∷ ts) zero g e = inl (t, refl, Option·some-injective (alone t) g e)
   front-place (t ∷ ts) (suc k) g e = front-place ts k g e
 
-  place-front : (ts : List (Term ℕ)) (k : ℕ) (t : Term ℕ) → place ts (suc k) ≡ some t → place (map alone ts ++ body) (suc k) ≡ some (alone t)
+  pub place-front : (ts : List (Term ℕ)) (k : ℕ) (t : Term ℕ) → place ts (suc k) ≡ some t → place (map alone ts ++ body) (suc k) ≡ some (alone t)
   place-front [] k t e = absurd (Option·none-ne-some t e)
   place-front (u ∷ ts) zero t e = ap some (ap alone (Option·some-injective u t e))
   place-front (u ∷ ts) (suc k) t e = place-front ts k t e
@@ -100,7 +100,7 @@ stand-before ts r (i ∷ l) (k ∷ m) (x ∷ xs) (y ∷ ys) s t (inr h) = inr (O
 pub before-stand : (ts : List (Term ℕ)) → Rising TermBefore ts → (l m : List ℕ) (xs ys : List (Term ℕ)) → Stand ts l xs → Stand ts m ys → ListBefore TermBefore xs ys → ListBefore _<_ l m
 before-stand ts r l m xs ys s t h = ⊎-elim (λ a. a)
     (⊎-elim (λ e. absurd (order .never xs (subst (ListBefore TermBefore xs) (sym (stand-same ts l xs ys s (subst (λ n. Stand ts n ys) (sym e) t))) h)))
-      (λ b. absurd (one-way order xs ys h (stand-before ts r m l ys xs t s b))))
+    (λ b. absurd (one-way order xs ys h (stand-before ts r m l ys xs t s b))))
     (bytesOrder .compare l m)
   where
     order : Strict (ListBefore TermBefore)

@@ -32,10 +32,13 @@ module _ (v q : Rule ℕ) (ts : List (Term ℕ)) (p : Task) (h : ℕ) (w : TaskO
   heads-out σ [] [] s = tt
   heads-out σ [] (t ∷ hd) s = absurd s
   heads-out σ (k ∷ l) [] s = absurd s
-  heads-out σ (k ∷ l) (t ∷ hd) s = (⊎-elim
-      (λ a. a .1 ∙ ap some (head-eq-of-cons-eq (ap (λ (g : Subgoal (Term ℕ)). g .terms) (a .2))))
-      (λ m. absurd (fit-other (w .arities) (w .relations) (alone (σ t)) (w .question .fit (alone (σ t)) m) refl))
-      (front-place (q .body) ts k (alone (σ t)) (s .0)), heads-out σ l hd (s .1))
+  heads-out σ (k ∷ l) (t ∷ hd) s = (
+    ⊎-elim
+        (λ a. a .1 ∙ ap some (head-eq-of-cons-eq (ap (λ (g : Subgoal (Term ℕ)). g .terms) (a .2))))
+        (λ m. absurd (fit-other (w .arities) (w .relations) (alone (σ t)) (w .question .fit (alone (σ t)) m) refl))
+        (front-place (q .body) ts k (alone (σ t)) (s .0)),
+    heads-out σ l hd (s .1),
+  )
 
   -- a body's subgoals become subgoals of the question
   bodies-out : (σ : Term ℕ → Term ℕ) (l : List ℕ) (gs : List (Subgoal (Term ℕ))) → Stand (onto ts q) l (map (each σ) gs) → ((g : Subgoal (Term ℕ)) → g ∈ gs → Fits (w .arities) g) → (g : Subgoal (Term ℕ)) → g ∈ gs → each σ g ∈ q .body
@@ -55,7 +58,7 @@ module _ (v q : Rule ℕ) (ts : List (Term ℕ)) (p : Task) (h : ℕ) (w : TaskO
       let sent = row-sent v q ts p h w (js ++ y .rest) .0 (y .mapped) in
       let σ : Term ℕ → Term ℕ = becomes con (sent .value) in
       let s = stand-split (onto ts q) js (y .rest) (map (each σ) (map alone (v .head))) (map (each σ) (v .body)) (y .long ∙ sym (heads-long σ))
-        (subst (Stand (onto ts q) (js ++ y .rest)) (map-append (each σ) (map alone (v .head)) (v .body)) (sent .sends)) in
+      (subst (Stand (onto ts q) (js ++ y .rest)) (map-append (each σ) (map alone (v .head)) (v .body)) (sent .sends)) in
       (map σ (v .head), heads-out σ js (v .head) (s .0), record { value = sent .value; gives = refl; holds = bodies-out σ (y .rest) (v .body) (s .1) (w .summary .fit) })
 
   -- a row's terms are terms of the question: each is what a variable of the body becomes
@@ -72,13 +75,14 @@ module _ (v q : Rule ℕ) (ts : List (Term ℕ)) (p : Task) (h : ℕ) (w : TaskO
       let js = stand-of ts (map σ (v .head)) (row-terms (y .value) (y .holds)) in
       let rest = stand-of (onto ts q) (map (each σ) (v .body)) (λ g m. let a = Memᴰ·of-map (each σ) (v .body) m in Memᴰ·cast (sym (a .2)) (Memᴰ·append-right (map alone ts) (y .holds (a .0) (a .1)))) in
       let front : Stand (onto ts q) (js .0) (map (each σ) (map alone (v .head))) =
-        subst (Stand (onto ts q) (js .0)) (map-map σ alone (v .head) ∙ sym (map-map alone (each σ) (v .head))) (stand-front (q .body) ts (js .0) (map σ (v .head)) (js .1)) in
+      subst (Stand (onto ts q) (js .0)) (map-map σ alone (v .head) ∙ sym (map-map alone (each σ) (v .head))) (stand-front (q .body) ts (js .0) (map σ (v .head)) (js .1)) in
       let sends : Stand (onto ts q) (js .0 ++ rest .0) (map (each σ) (placed v)) =
-        subst (Stand (onto ts q) (js .0 ++ rest .0)) (sym (map-append (each σ) (map alone (v .head)) (v .body))) (stand-join (onto ts q) (js .0) (rest .0) (map (each σ) (map alone (v .head))) (map (each σ) (v .body)) front (rest .1)) in
-      ( js .0
-      , record {
-        rest = rest .0;
-        long = stand-long ts (js .0) (map σ (v .head)) (js .1) ∙ length-map (v .head) σ ∙ w .long;
-        mapped = row-sent v q ts p h w (js .0 ++ rest .0) .1 record { value = y .value; sends = sends; extends = λ x n. absurd (n refl) };
-      }
-      , subst (Stand ts (js .0)) (y .gives) (js .1) )
+      subst (Stand (onto ts q) (js .0 ++ rest .0)) (sym (map-append (each σ) (map alone (v .head)) (v .body))) (stand-join (onto ts q) (js .0) (rest .0) (map (each σ) (map alone (v .head))) (map (each σ) (v .body)) front (rest .1)) in (
+        js .0,
+        record {
+          rest = rest .0;
+          long = stand-long ts (js .0) (map σ (v .head)) (js .1) ∙ length-map (v .head) σ ∙ w .long;
+          mapped = row-sent v q ts p h w (js .0 ++ rest .0) .1 record { value = y .value; sends = sends; extends = λ x n. absurd (n refl) };
+        },
+        subst (Stand ts (js .0)) (y .gives) (js .1),
+      )

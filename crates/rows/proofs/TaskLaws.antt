@@ -64,11 +64,11 @@ module _ (v q : Rule ℕ) (ts : List (Term ℕ)) (p : Task) (h : ℕ) (w : TaskO
   alike : (g k : Subgoal (Term ℕ)) → g ∈ placed v → k ∈ onto ts q → g .relation ≡ k .relation → length (g .terms) ≡ length (k .terms)
   alike g k m n e = ⊎-elim
       (λ a. ⊎-elim (λ b. ap (λ (x : Subgoal (Term ℕ)). length (x .terms)) (sym (a .2)) ∙ ap (λ (x : Subgoal (Term ℕ)). length (x .terms)) (b .2))
-        (λ j. absurd (fit-other (w .arities) (w .relations) k (w .question .fit k j) (sym e ∙ ap (λ (x : Subgoal (Term ℕ)). x .relation) (sym (a .2)))))
-        (parts ts (q .body) k n))
+      (λ j. absurd (fit-other (w .arities) (w .relations) k (w .question .fit k j) (sym e ∙ ap (λ (x : Subgoal (Term ℕ)). x .relation) (sym (a .2)))))
+      (parts ts (q .body) k n))
       (λ i. ⊎-elim (λ b. absurd (fit-other (w .arities) (w .relations) g (w .summary .fit g i) (e ∙ ap (λ (x : Subgoal (Term ℕ)). x .relation) (sym (b .2)))))
-        (λ j. w .summary .fit g i .long ∙ ap (λ r. getD (w .arities) r 0) e ∙ sym (w .question .fit k j .long))
-        (parts ts (q .body) k n))
+      (λ j. w .summary .fit g i .long ∙ ap (λ r. getD (w .arities) r 0) e ∙ sym (w .question .fit k j .long))
+      (parts ts (q .body) k n))
       (parts (v .head) (v .body) g m)
 
   source : RuleSource termCoding (placed v) (onto ts q) (replicate (length (onto ts q)) 0) []
