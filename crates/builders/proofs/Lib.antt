@@ -9,3 +9,7 @@ pub mod WalkSteps
 pub mod TableSteps
 pub mod CodeLaws
 pub mod UseLaws
+pub mod HeadSteps
+pub mod InOrderSteps
+pub mod TermWords
+pub mod QuestionTerms
