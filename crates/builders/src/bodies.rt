@@ -1,0 +1,38 @@
+// A rule's body as words and widths.
+ghost use mathlib.Core.Path.{_≡_};
+ghost use Prim.Native.Nat.{_<_};
+ghost use lib.ListN.{length};
+ghost use Rattle.coding.specs.Code.{slotCode, termCode};
+ghost use Rattle.builders.specs.Codes.{based};
+ghost use Rattle.builders.specs.Laid.{LaidFor};
+ghost use Rattle.builders.specs.Promises.{BodyWords, BodyWidths};
+use super::places::VARIABLE;
+use super::subgoals::put_subgoals;
+use super::subgoals::put_widths;
+use super::tables::base_table;
+
+// Nine words and a width for each subgoal; the variables count from the base on.
+fn body_words(body: &[u8], relations: &[u8], base: u64, out: &mut [u64], widths: &mut [u8]) -> usize
+    requires { ⌜ LaidFor (now relations) (now body) 9 (length (now out)) × LaidFor (now relations) (now body) 1 (length (now widths)) × (base < 9223372036854775808) ⌝ }
+    ensures { λ r. ⌜ BodyWords (now (relations .entry)) (now (body .entry)) (based base) (now (out .entry)) (now (out .exit)) r × BodyWidths (now (relations .entry)) (now (body .entry)) (now (widths .entry)) (now (widths .exit)) r ⌝ }
+{
+    put_widths(body, relations, widths);
+    let table = base_table(base);
+    put_subgoals(body, relations, &table, out)
+}
+
+// The body as a source: its variables are slots. Returns how many subgoals there are.
+pub fn slot_words(body: &[u8], relations: &[u8], out: &mut [u64], widths: &mut [u8]) -> usize
+    requires { ⌜ LaidFor (now relations) (now body) 9 (length (now out)) × LaidFor (now relations) (now body) 1 (length (now widths)) ⌝ }
+    ensures { λ r. ⌜ BodyWords (now (relations .entry)) (now (body .entry)) slotCode (now (out .entry)) (now (out .exit)) r × BodyWidths (now (relations .entry)) (now (body .entry)) (now (widths .entry)) (now (widths .exit)) r ⌝ }
+{
+    body_words(body, relations, 0, out, widths)
+}
+
+// The body as a target: its terms have their own words. Returns how many subgoals there are.
+pub fn term_words(body: &[u8], relations: &[u8], out: &mut [u64], widths: &mut [u8]) -> usize
+    requires { ⌜ LaidFor (now relations) (now body) 9 (length (now out)) × LaidFor (now relations) (now body) 1 (length (now widths)) ⌝ }
+    ensures { λ r. ⌜ BodyWords (now (relations .entry)) (now (body .entry)) termCode (now (out .entry)) (now (out .exit)) r × BodyWidths (now (relations .entry)) (now (body .entry)) (now (widths .entry)) (now (widths .exit)) r ⌝ }
+{
+    body_words(body, relations, VARIABLE, out, widths)
+}

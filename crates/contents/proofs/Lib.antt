@@ -1,0 +1,5 @@
+pub mod Answers
+pub mod ArityWalk
+pub mod EntryWalk
+pub mod Sizes
+pub mod Unique

@@ -1,0 +1,17 @@
+pub mod Carry
+pub mod Held
+pub mod Suit
+pub mod Places
+pub mod Expand
+pub mod Fit
+pub mod Freeze
+pub mod Contain
+pub mod ListsOfRows
+pub mod Part
+pub mod Normal
+pub mod Same
+pub mod Differ
+pub mod Sound
+pub mod Extend
+pub mod Alone
+pub mod Demand3
