@@ -1,8 +1,6 @@
 use borrow.Author.Needs.{needs}
-use mathlib.Core.Path.{_≡_}
 use Prim.Native.Nat.{_≤_, _-_}
 use native.Mathlib.Omega.{arith}
-use lib.ListN.{length, getD}
 use Rattle.placing.specs.Task.{posed}
 use Rattle.rows.proofs.NextLaw.{Gone, gone-start}
 use Rattle.rows.proofs.NextSteps.{place-within, in-reach, in-source, found-none, found-not, found-row}
