@@ -2,8 +2,7 @@
 use mathlib.Core.Path.{_≡_, refl, sym, ap, _∙_, subst}
 use mathlib.Core.Bool.{Bool, true, false, cond}
 use mathlib.Core.Logic.{_⊎_, inl, inr, ⊎-elim}
-use mathlib.Core.Option.{some}
-use mathlib.Core.List.{List, [], _∷_, _++_, map, List·Memᴰ·head, List·Memᴰ·append-cases, List·Memᴰ·eq-of-singleton, List·Memᴰ·not-nil, Memᴰ·append-left, Memᴰ·append-right}
+use mathlib.Core.List.{List, [], _∷_, _++_, List·Memᴰ·head, List·Memᴰ·append-cases, List·Memᴰ·eq-of-singleton, List·Memᴰ·not-nil, Memᴰ·append-left, Memᴰ·append-right}
 use Prim.Native.Nat.{ℕ, zero, suc, _+_, _*_, _<_, _≤_}
 use native.Mathlib.Omega.{arith}
 use lib.Dec.{eqb}
@@ -11,7 +10,6 @@ use lib.ListN.{length, getD, take, set, replicate, length-set}
 use lib.Seq.{take-all}
 use borrow.Author.Tests.{eqb-true, eqb-false}
 use Rattle.words.specs.Words.{_∈_, Term, var, con, Rule}
-use Rattle.words.specs.Summaries.{place}
 use Rattle.words.specs.Lists.{map-same}
 use Rattle.layout.specs.Numbers.{numberAt}
 use Rattle.layout.specs.RuleLayout.{Layout}
@@ -19,16 +17,16 @@ use Rattle.layout.specs.Standing.{TermAt}
 use Rattle.layout.proofs.Places.{place-some}
 use Rattle.layout.proofs.RulePlaces.{head-terms}
 use Rattle.coding.specs.Code.{variableTag, termCode, padded}
-use Rattle.builders.specs.Codes.{tabled}
+use Rattle.wording.specs.Codes.{tabled}
 use Rattle.builders.specs.Heads.{HeadWords, HeadBindings}
-use Rattle.builders.specs.Laid.{Laid}
-use Rattle.builders.specs.Promises.{HeadCount}
-use Rattle.builders.specs.Standing.{Many, SomeTerms}
-use Rattle.builders.specs.Tables.{BaseTable}
-use Rattle.builders.proofs.CodeLaws.{tabled-based, based-term}
-use Rattle.builders.proofs.NineSteps.{TermsStored, eight-end}
-use Rattle.builders.proofs.SoFar.{take-place}
-use Rattle.builders.proofs.Stores.{after-store}
+use Rattle.wording.specs.Laid.{Laid}
+use Rattle.wording.specs.Promises.{HeadCount}
+use Rattle.wording.specs.Standing.{Many, SomeTerms}
+use Rattle.wording.specs.Tables.{BaseTable}
+use Rattle.wording.proofs.CodeLaws.{tabled-based, based-term}
+use Rattle.wording.proofs.NineSteps.{TermsStored, eight-end}
+use Rattle.wording.proofs.SoFar.{take-place}
+use Rattle.wording.proofs.Stores.{after-store}
 
 module _ {bytes : List ℕ} {n : ℕ} (count : HeadCount bytes n) where
   head-many : {arities : List ℕ} {most : ℕ} {r : Rule ℕ} → Layout arities most bytes r → Many bytes 2 n (r .head)

@@ -1,15 +1,4 @@
-pub mod Counts
-pub mod TermSteps
-pub mod Stores
-pub mod WordLaws
-pub mod Walks
-pub mod SoFar
-pub mod NineSteps
-pub mod WalkSteps
-pub mod TableSteps
-pub mod CodeLaws
-pub mod UseLaws
 pub mod HeadSteps
-pub mod InOrderSteps
-pub mod TermWords
 pub mod QuestionTerms
+pub mod TermWords
+pub mod UseLaws

@@ -1,7 +1,7 @@
 -- A question's words, and its terms among them.
-use mathlib.Core.Path.{_≡_, refl, sym, ap, _∙_, subst}
+use mathlib.Core.Path.{_≡_, sym, ap, _∙_, subst}
 use mathlib.Core.List.{List}
-use Prim.Native.Nat.{ℕ, _+_, _*_, _<_, _≤_}
+use Prim.Native.Nat.{ℕ, _*_, _≤_}
 use native.Mathlib.Omega.{arith}
 use lib.ListN.{length, take, drop}
 use lib.Seq.{take-at, length-take-le}
@@ -9,15 +9,16 @@ use Rattle.words.specs.Words.{Rule}
 use Rattle.layout.specs.RuleLayout.{Layout}
 use Rattle.layout.proofs.Sizes.{terms-few}
 use Rattle.coding.specs.Code.{variableTag, termCode, wordsOf}
-use Rattle.builders.specs.Codes.{tabled, based}
-use Rattle.builders.specs.InOrder.{TermAmong, WordOf, InOrder, BodyTerms}
-use Rattle.builders.specs.Laid.{LaidFor, QuestionLaid}
-use Rattle.builders.specs.Promises.{BodyWords}
-use Rattle.builders.specs.Tables.{BaseTable}
-use Rattle.builders.proofs.CodeLaws.{tabled-based, based-term, recoded}
-use Rattle.builders.proofs.Stores.{front-length}
+use Rattle.wording.specs.Codes.{tabled}
+use Rattle.ascending.specs.InOrder.{TermAmong, InOrder}
+use Rattle.builders.specs.BodyTerms.{WordOf, BodyTerms}
+use Rattle.wording.specs.Laid.{LaidFor, QuestionLaid}
+use Rattle.wording.specs.Promises.{BodyWords}
+use Rattle.wording.specs.Tables.{BaseTable}
+use Rattle.wording.proofs.CodeLaws.{tabled-based, based-term, recoded}
+use Rattle.wording.proofs.Stores.{front-length}
 use Rattle.builders.proofs.TermWords.{Small, terms-among}
-use Rattle.builders.proofs.WordLaws.{words-length}
+use Rattle.wording.proofs.WordLaws.{words-length}
 
 module _ {arities bytes : List ℕ} (q : QuestionLaid arities bytes) where
   -- "question 1 to 12"

@@ -1,13 +1,14 @@
 -- Which words of subgoals are terms' words.
-use mathlib.Core.Path.{_≡_, refl, sym, ap, _∙_, subst}
+use mathlib.Core.Path.{_≡_, refl, sym, ap, subst}
 use mathlib.Core.Logic.{_↔_, _⊎_, inl, inr, ⊎-elim}
-use mathlib.Core.List.{List, [], _∷_, _++_, map, List·Memᴰ·head, List·Memᴰ·tail, List·Memᴰ·append-cases, List·Memᴰ·not-nil, Memᴰ·append-left, Memᴰ·append-right, Memᴰ·of-map}
-use Prim.Native.Nat.{ℕ, zero, suc, _+_, _<_, _≤_}
+use mathlib.Core.List.{List, [], _∷_, map, List·Memᴰ·head, List·Memᴰ·tail, List·Memᴰ·append-cases, List·Memᴰ·not-nil, Memᴰ·append-left, Memᴰ·append-right, Memᴰ·of-map}
+use Prim.Native.Nat.{ℕ, zero, suc, _<_, _≤_}
 use native.Mathlib.Omega.{arith}
 use lib.ListN.{length, length-map}
 use Rattle.words.specs.Words.{_∈_, Term, var, con, Subgoal}
 use Rattle.coding.specs.Code.{variableTag, termCode, padded, subgoalWords, wordsOf}
-use Rattle.builders.specs.InOrder.{WordOf, TermAmong}
+use Rattle.ascending.specs.InOrder.{TermAmong}
+use Rattle.builders.specs.BodyTerms.{WordOf}
 
 padded-out : (n : ℕ) (l : List ℕ) (w : ℕ) → w ∈ padded n l → (w ∈ l) ⊎ (w ≡ 1)
 padded-out zero l w i = absurd (List·Memᴰ·not-nil i)

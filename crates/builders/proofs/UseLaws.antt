@@ -7,15 +7,16 @@ use Prim.Native.Nat.{ℕ, _+_, _*_}
 use native.Mathlib.Omega.{arith}
 use lib.Dec.{eqb}
 use Rattle.words.specs.Words.{_∈_, Term, var, con, Subgoal, Rule, becomes}
-use Rattle.words.specs.Summaries.{Summaries, summary, orEmpty, definition, Own, old, fresh, replaced, kept, inUse, inPlace}
+use Rattle.words.specs.Summaries.{Summaries, summary, orEmpty, definition, Own, fresh, replaced, kept, inUse, inPlace}
 use Rattle.words.specs.Lists.{map-same}
 use Rattle.layout.specs.RuleLayout.{TermWithin}
 use Rattle.coding.specs.Code.{variableTag, freshTag, ownCode, ownSlot, keptSlot, wordsOf, widthsOf}
-use Rattle.builders.specs.Codes.{tabled, based, counted, basedUse, atFront}
-use Rattle.builders.specs.Laid.{UseOf}
-use Rattle.builders.specs.Promises.{BodyWords, UseWords}
-use Rattle.builders.specs.Tables.{UseTable}
-use Rattle.builders.proofs.CodeLaws.{words-same, words-each, widths-each}
+use Rattle.wording.specs.Codes.{tabled, based, counted, basedUse, atFront}
+use Rattle.wording.specs.Laid.{UseOf}
+use Rattle.wording.specs.Promises.{BodyWords}
+use Rattle.builders.specs.Uses.{UseWords}
+use Rattle.wording.specs.Tables.{UseTable}
+use Rattle.wording.proofs.CodeLaws.{words-same, words-each, widths-each}
 
 -- what stands for a variable, coded
 replaced-coded : {A : Type 0} (code : A → ℕ) (ss : List (Term ℕ)) (ts : List A) (other : ℕ → A) (x : ℕ) → code (replaced ss ts other x) ≡ replaced ss (map code ts) (λ y. code (other y)) x

@@ -1,7 +1,3 @@
-pub mod Codes
+pub mod BodyTerms
 pub mod Heads
-pub mod InOrder
-pub mod Laid
-pub mod Standing
-pub mod Tables
-pub mod Promises
+pub mod Uses

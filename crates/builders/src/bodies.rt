@@ -3,13 +3,13 @@ ghost use mathlib.Core.Path.{_≡_};
 ghost use Prim.Native.Nat.{_<_};
 ghost use lib.ListN.{length};
 ghost use Rattle.coding.specs.Code.{slotCode, termCode};
-ghost use Rattle.builders.specs.Codes.{based};
-ghost use Rattle.builders.specs.Laid.{LaidFor};
-ghost use Rattle.builders.specs.Promises.{BodyWords, BodyWidths};
-use super::places::VARIABLE;
-use super::subgoals::put_subgoals;
-use super::subgoals::put_widths;
-use super::tables::base_table;
+ghost use Rattle.wording.specs.Codes.{based};
+ghost use Rattle.wording.specs.Laid.{LaidFor};
+ghost use Rattle.wording.specs.Promises.{BodyWords, BodyWidths};
+use wording::places::VARIABLE;
+use wording::subgoals::put_subgoals;
+use wording::subgoals::put_widths;
+use wording::tables::base_table;
 
 // Nine words and a width for each subgoal; the variables count from the base on.
 fn body_words(body: &[u8], relations: &[u8], base: u64, out: &mut [u64], widths: &mut [u8]) -> usize

@@ -1,11 +1,11 @@
 // A rule's head: its words, and the bindings that send each of its variables to itself.
 ghost use Rattle.builders.specs.Heads.{HeadWords, HeadBindings};
-ghost use Rattle.builders.specs.Laid.{Laid};
-use super::places::NONE;
-use super::places::VARIABLE;
-use super::places::head_count;
-use super::places::padded_at;
-use super::tables::base_table;
+ghost use Rattle.wording.specs.Laid.{Laid};
+use wording::places::NONE;
+use wording::places::VARIABLE;
+use wording::places::head_count;
+use wording::places::padded_at;
+use wording::tables::base_table;
 
 // The words of the head's terms, and NONE where they have ended.
 pub fn head_words(body: &[u8]) -> [u64; 8]

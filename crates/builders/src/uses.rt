@@ -3,12 +3,12 @@ ghost use mathlib.Core.Path.{_≡_};
 ghost use Prim.Native.Nat.{ℕ, _<_};
 ghost use lib.ListN.{length};
 ghost use Rattle.coding.specs.Code.{ownCode, ownSlot, keptSlot};
-ghost use Rattle.builders.specs.Codes.{basedUse};
-ghost use Rattle.builders.specs.Laid.{UseFor};
-ghost use Rattle.builders.specs.Promises.{UseWords};
-use super::places::VARIABLE;
-use super::subgoals::put_subgoals;
-use super::tables::use_table;
+ghost use Rattle.wording.specs.Codes.{basedUse};
+ghost use Rattle.wording.specs.Laid.{UseFor};
+ghost use Rattle.builders.specs.Uses.{UseWords};
+use wording::places::VARIABLE;
+use wording::subgoals::put_subgoals;
+use wording::tables::use_table;
 
 // The tag of a use's own variable, in units of 2^32.
 const FRESH: u64 = 12884901888;

@@ -1,15 +1,15 @@
 -- What stands where in the bytes of a rule: the counts, the head's terms, and each subgoal's relation and terms. So nobody above reads bytes.
 use mathlib.Core.Path.{_≡_, refl, sym, ap, _∙_}
 use mathlib.Core.Option.{some}
-use mathlib.Core.List.{List, [], _∷_, _++_, map, append-assoc}
+use mathlib.Core.List.{List, [], _∷_, _++_, append-assoc}
 use Prim.Native.Nat.{ℕ, zero, suc, _+_, _*_, _≤_, _<_}
 use native.Mathlib.Omega.{arith}
 use lib.ListN.{length, getD, take, drop, length-append, length-drop}
 use lib.Seq.{drop-drop, drop-append-add, getD-drop}
 use Rattle.words.specs.Words.{Term, var, con, Subgoal, Rule}
-use Rattle.words.specs.Summaries.{place, joined}
+use Rattle.words.specs.Summaries.{place}
 use Rattle.layout.specs.Numbers.{little, numberAt}
-use Rattle.layout.specs.RuleLayout.{termBytes, termsBytes, subgoalBytes, subgoalsBytes, ruleBytes, TermWithin, TermsWithin, Layout}
+use Rattle.layout.specs.RuleLayout.{termBytes, termsBytes, subgoalBytes, subgoalsBytes, TermWithin, TermsWithin, Layout}
 use Rattle.layout.specs.Standing.{tagOf, numberOf, TermAt, TermsAt}
 use Rattle.layout.proofs.NumberLaws.{value-little}
 use Rattle.layout.proofs.Places.{place-in, place-drop, place-less}

@@ -1,6 +1,6 @@
 use borrow.Author.Needs.{needs}
-use Rattle.builders.specs.Codes.{tabled, based}
-use Rattle.builders.proofs.CodeLaws.{tabled-based, recoded}
+use Rattle.wording.specs.Codes.{tabled, based}
+use Rattle.wording.proofs.CodeLaws.{tabled-based, recoded}
 use Rattle.builders.proofs.bodies.body_words.Statement.{statement}
 use Rattle.builders.proofs.bodies.body_words.Tie as tie
 

@@ -1,7 +1,7 @@
 use borrow.Author.Needs.{needs}
 use Rattle.coding.specs.Code.{slotCode}
-use Rattle.builders.specs.Codes.{based}
-use Rattle.builders.proofs.CodeLaws.{based-slot, recoded}
+use Rattle.wording.specs.Codes.{based}
+use Rattle.wording.proofs.CodeLaws.{based-slot, recoded}
 use Rattle.builders.proofs.bodies.slot_words.Statement.{statement}
 use Rattle.builders.proofs.bodies.slot_words.Tie as tie
 

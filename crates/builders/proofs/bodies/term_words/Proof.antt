@@ -1,7 +1,7 @@
 use borrow.Author.Needs.{needs}
 use Rattle.coding.specs.Code.{variableTag, termCode}
-use Rattle.builders.specs.Codes.{based}
-use Rattle.builders.proofs.CodeLaws.{based-term, recoded}
+use Rattle.wording.specs.Codes.{based}
+use Rattle.wording.proofs.CodeLaws.{based-term, recoded}
 use Rattle.builders.proofs.bodies.term_words.Statement.{statement}
 use Rattle.builders.proofs.bodies.term_words.Tie as tie
 

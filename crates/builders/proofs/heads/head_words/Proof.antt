@@ -3,7 +3,7 @@ use Prim.Native.Nat.{_≤_, _-_}
 use mathlib.Core.Path.{refl}
 use native.Mathlib.Omega.{arith}
 use Rattle.builders.proofs.HeadSteps.{head-there, head-end}
-use Rattle.builders.proofs.NineSteps.{TermsStored, terms-go}
+use Rattle.wording.proofs.NineSteps.{TermsStored, terms-go}
 use Rattle.builders.proofs.heads.head_words.Statement.{statement}
 use Rattle.builders.proofs.heads.head_words.Tie as tie
 

@@ -1,0 +1,10 @@
+pub mod Counts
+pub mod TermSteps
+pub mod Stores
+pub mod WordLaws
+pub mod Walks
+pub mod SoFar
+pub mod NineSteps
+pub mod WalkSteps
+pub mod TableSteps
+pub mod CodeLaws
