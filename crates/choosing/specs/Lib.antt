@@ -1,0 +1,3 @@
+pub mod Posed
+pub mod Chosen
+pub mod Passing
