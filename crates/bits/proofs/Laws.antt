@@ -87,7 +87,7 @@ with-is set x h = let o : 1 * 2 ^ x ≡ 2 ^ x = omega arith in ap (bitOr set) (s
 pub within-or : (a b : ℕ) → bitOr a b ≡ b → (x : ℕ) → Has a x → Has b x
 within-or a b e x h = subst (λ n. Has n x) e (or-left a b x h)
 
-half-has : (a x : ℕ) → Has (a / 2) x ↔ Has a (suc x)
+pub half-has : (a x : ℕ) → Has (a / 2) x ↔ Has a (suc x)
 unfolding Has
 half-has a x = let e : a / 2 / 2 ^ x ≡ a / 2 ^ suc x = shr-shr a 1 x ∙ ap (λ n. a / 2 ^ n) (omega arith) in (λ h. ap (λ n. n % 2) (sym e) ∙ h, λ h. ap (λ n. n % 2) e ∙ h)
 
@@ -107,7 +107,7 @@ or-within-below (suc k) a b l h =
         bit (suc n) e g = let w : b / 1 % 2 ≡ 1 = g (omega arith) in omega arith
 
 -- every number has fewer digits than itself
-below : (n : ℕ) → n < 2 ^ n
+pub below : (n : ℕ) → n < 2 ^ n
 below zero = omega arith
 below (suc n) = let p = two-pow-succ n in omega (arith, below n)
 

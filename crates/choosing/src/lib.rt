@@ -2,9 +2,11 @@
 ghost use mathlib.Core.Path.{_≡_};
 ghost use Prim.Native.Nat.{_+_, _<_, _≤_};
 ghost use Rattle.placing.specs.Task.{posed};
-ghost use Rattle.choosing.specs.Posed.{Posed};
 ghost use Rattle.choosing.specs.Chosen.{Chooses};
+ghost use Rattle.choosing.specs.Pruning.{PosedWith};
 ghost use Rattle.choosing.specs.Passing.{nothing, found, starting, taking, passing, Fewest, Tried, Underway};
+
+pub mod prune; // rows that others dominate
 
 // How many rows are chosen, and their numbers, in order; or that no list of rows will do.
 pub struct Chosen {
@@ -97,15 +99,16 @@ fn fewest(
     target: &[u64],
     own: &[u8],
     b: [u64; 64],
+    dom: &[u64; 64],
     n: usize,
 ) -> usize
-    requires { ⌜ Posed (posed (now source) (now widths) (now lasts) (now target) (now own)) b n ⌝ }
+    requires { ⌜ PosedWith (posed (now source) (now widths) (now lasts) (now target) (now own)) b n (now dom) ⌝ }
     ensures { λ r. ⌜ Fewest (posed (now (source .entry)) (now (widths .entry)) (now (lasts .entry)) (now (target .entry)) (now (own .entry))) b n r ⌝ }
 {
     let all = bits::below(n as u32);
     let mut k: usize = 0;
     while k < 13 {
-        if placing::enough(source, widths, lasts, target, own, b, 0, all, k) {
+        if prune::can(source, widths, lasts, target, own, b, dom, n, 0, all, k) {
             return k;
         }
         k += 1;
@@ -121,11 +124,12 @@ fn one_row(
     target: &[u64],
     own: &[u8],
     b: [u64; 64],
+    dom: &[u64; 64],
     n: usize,
     row: usize,
     p: Pass,
 ) -> Pass
-    requires { ⌜ Posed (posed (now source) (now widths) (now lasts) (now target) (now own)) b n ⌝ }
+    requires { ⌜ PosedWith (posed (now source) (now widths) (now lasts) (now target) (now own)) b n (now dom) ⌝ }
     requires { ⌜ row < n ⌝ }
     requires { ⌜ p .k < 12 ⌝ }
     requires { ⌜ 0 < p .left ⌝ }
@@ -134,7 +138,19 @@ fn one_row(
     let used = bits::add(p.used, row as u32);
     let may = bits::remove(p.may, row as u32);
     let left = p.left - 1;
-    if placing::enough(source, widths, lasts, target, own, b, used, may, left) {
+    if prune::can(
+        source,
+        widths,
+        lasts,
+        target,
+        own,
+        b,
+        dom,
+        n,
+        used,
+        may,
+        left,
+    ) {
         return taken(p, row);
     }
     passed(p, row)
@@ -148,10 +164,11 @@ fn first_rows(
     target: &[u64],
     own: &[u8],
     b: [u64; 64],
+    dom: &[u64; 64],
     n: usize,
     k: usize,
 ) -> Chosen
-    requires { ⌜ Posed (posed (now source) (now widths) (now lasts) (now target) (now own)) b n ⌝ }
+    requires { ⌜ PosedWith (posed (now source) (now widths) (now lasts) (now target) (now own)) b n (now dom) ⌝ }
     requires { ⌜ Fewest (posed (now source) (now widths) (now lasts) (now target) (now own)) b n k ⌝ }
     requires { ⌜ k < 13 ⌝ }
     ensures { λ r. ⌜ Chooses (posed (now (source .entry)) (now (widths .entry)) (now (lasts .entry)) (now (target .entry)) (now (own .entry))) b n r ⌝ }
@@ -159,7 +176,7 @@ fn first_rows(
     let mut p = start(n, k);
     let mut row: usize = 0;
     while 0 < p.left {
-        let next = one_row(source, widths, lasts, target, own, b, n, row, p);
+        let next = one_row(source, widths, lasts, target, own, b, dom, n, row, p);
         p = next;
         row += 1;
     }
@@ -174,14 +191,15 @@ pub fn choose(
     target: &[u64],
     own: &[u8],
     b: [u64; 64],
+    dom: &[u64; 64],
     n: usize,
 ) -> Chosen
-    requires { ⌜ Posed (posed (now source) (now widths) (now lasts) (now target) (now own)) b n ⌝ }
+    requires { ⌜ PosedWith (posed (now source) (now widths) (now lasts) (now target) (now own)) b n (now dom) ⌝ }
     ensures { λ r. ⌜ Chooses (posed (now (source .entry)) (now (widths .entry)) (now (lasts .entry)) (now (target .entry)) (now (own .entry))) b n r ⌝ }
 {
-    let k = fewest(source, widths, lasts, target, own, b, n);
+    let k = fewest(source, widths, lasts, target, own, b, dom, n);
     if k < 13 {
-        return first_rows(source, widths, lasts, target, own, b, n, k);
+        return first_rows(source, widths, lasts, target, own, b, dom, n, k);
     }
     none()
 }
