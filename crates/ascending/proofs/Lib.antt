@@ -1,1 +1,2 @@
 pub mod InOrderSteps
+pub mod Unique

@@ -8,3 +8,4 @@ pub mod NineSteps
 pub mod WalkSteps
 pub mod TableSteps
 pub mod CodeLaws
+pub mod Unique
