@@ -36,3 +36,11 @@ pub fn term_words(body: &[u8], relations: &[u8], out: &mut [u64], widths: &mut [
 {
     body_words(body, relations, VARIABLE, out, widths)
 }
+
+// How many terms each subgoal of the body has. Returns how many subgoals there are.
+pub fn body_widths(body: &[u8], relations: &[u8], widths: &mut [u8]) -> usize
+    requires { ⌜ LaidFor (now relations) (now body) 1 (length (now widths)) ⌝ }
+    ensures { λ r. ⌜ BodyWidths (now (relations .entry)) (now (body .entry)) (now (widths .entry)) (now (widths .exit)) r ⌝ }
+{
+    put_widths(body, relations, widths)
+}

@@ -16,7 +16,7 @@ use Rattle.placing.specs.Mapped.{useOf}
 use Rattle.ties.specs.Uses.{useAt, endOf, endsOf}
 use Rattle.ties.proofs.Pairs.{use-here, use-later}
 
-end-long : (n : ℕ) → length (endOf n) ≡ n
+pub end-long : (n : ℕ) → length (endOf n) ≡ n
 end-long zero = refl
 end-long (suc zero) = refl
 end-long (suc (suc n)) = ap suc (end-long (suc n))

@@ -1,0 +1,4 @@
+pub mod RowUse
+pub mod Stored
+pub mod Spread
+pub mod Growing

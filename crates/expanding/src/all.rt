@@ -1,0 +1,63 @@
+// The uses of a list of rows, one after the other.
+ghost use mathlib.Core.Path.{_≡_};
+ghost use Prim.Native.Nat.{_*_, _<_, _≤_};
+ghost use lib.ListN.{length};
+ghost use Rattle.coding.specs.Code.{ownCode, ownSlot};
+ghost use Rattle.expanding.specs.Given.{RowsGiven};
+ghost use Rattle.expanding.specs.Promises.{Counted, AllWords, AllOwners, AllInsides, AllWidths, AllEnds};
+use super::marks::count_up;
+use super::marks::fill;
+use super::marks::mark_end;
+use super::one::own_use;
+use super::one::slot_use;
+
+// As a target: of each subgoal its nine words, the number of its use and its place there. Returns how many subgoals there are.
+pub fn expand(
+    book: &[u8],
+    rows: &[u64],
+    n: usize,
+    out: &mut [u64],
+    own: &mut [u8],
+    inner: &mut [u8],
+) -> usize
+    requires { ⌜ RowsGiven (now book) (now rows) n × (n ≤ 64) × (72 * n ≤ length (now out)) × (8 * n ≤ length (now own)) × (8 * n ≤ length (now inner)) ⌝ }
+    ensures { λ r. ⌜ Counted (now (book .entry)) (now (rows .entry)) n r × AllWords (now (book .entry)) (now (rows .entry)) n ownCode (now (out .entry)) (now (out .exit)) × AllOwners (now (book .entry)) (now (rows .entry)) n (now (own .entry)) (now (own .exit)) × AllInsides (now (book .entry)) (now (rows .entry)) n (now (inner .entry)) (now (inner .exit)) ⌝ }
+{
+    let mut at: usize = 0;
+    let mut r: usize = 0;
+    while r < n {
+        let row = 9 * r;
+        let to = 9 * at;
+        let goals = own_use(book, &rows[row..], r as u64, &mut out[to..]);
+        fill(own, at, goals, r as u8);
+        count_up(inner, at, goals);
+        at += goals;
+        r += 1;
+    }
+    at
+}
+
+// As a source: of each subgoal its nine words, how many terms it has, and whether it ends its use. Returns how many subgoals there are.
+pub fn expand_back(
+    book: &[u8],
+    rows: &[u64],
+    n: usize,
+    out: &mut [u64],
+    widths: &mut [u8],
+    lasts: &mut [u8],
+) -> usize
+    requires { ⌜ RowsGiven (now book) (now rows) n × (n ≤ 12) × (72 * n ≤ length (now out)) × (8 * n ≤ length (now widths)) × (8 * n ≤ length (now lasts)) ⌝ }
+    ensures { λ r. ⌜ Counted (now (book .entry)) (now (rows .entry)) n r × AllWords (now (book .entry)) (now (rows .entry)) n ownSlot (now (out .entry)) (now (out .exit)) × AllWidths (now (book .entry)) (now (rows .entry)) n (now (widths .entry)) (now (widths .exit)) × AllEnds (now (book .entry)) (now (rows .entry)) n (now (lasts .entry)) (now (lasts .exit)) ⌝ }
+{
+    let mut at: usize = 0;
+    let mut r: usize = 0;
+    while r < n {
+        let row = 9 * r;
+        let to = 9 * at;
+        let goals = slot_use(book, &rows[row..], &mut out[to..], &mut widths[at..]);
+        mark_end(lasts, at, goals);
+        at += goals;
+        r += 1;
+    }
+    at
+}
