@@ -66,3 +66,34 @@ def book(arities, need, question, summaries):
 def stream(books):
     """Many books, each after its length: what the programs' form for many books takes."""
     return b"".join(struct.pack("<I", len(b)) + b for b in books)
+
+
+def rows(summary, question, most):
+    """The summary's rows on the question; more than `most` are not looked for."""
+    head, body = summary
+    # what is shown first, then what is joined, then the rest: loose subgoals last, they always fit
+    joined = lambda g: sum(t in other[1] for t in g[1] for other in body)
+    body = sorted(body, key=lambda g: (not any(t in head for t in g[1]), -joined(g), g[0] == 0))
+    found = set()
+
+    def completes(i, bound):
+        """Adds the rows that complete what is bound; true at once where a row is new and complete."""
+        shown = tuple(bound.get(t) for t in head)
+        known = None not in shown
+        if shown in found or len(found) > most:
+            return True
+        if i == len(body):
+            found.add(shown)
+            return True
+        relation, terms = body[i]
+        any_did = False
+        for r, targets in question[1]:
+            more = dict(bound)
+            if r == relation and all((t if t[0] else more.setdefault(t, u)) == u for t, u in zip(terms, targets)):
+                any_did = completes(i + 1, more) or any_did
+                if any_did and known:
+                    break  # only whether there is a completion counts
+        return any_did
+
+    completes(0, {})
+    return found

@@ -244,4 +244,5 @@ def main():
         out.writelines(line + "\n" for _, line in made)
 
 
-main()
+if __name__ == "__main__":
+    main()

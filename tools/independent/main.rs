@@ -3,11 +3,14 @@
 // length (4 bytes, little-endian), and writes what the program of that name must write for each.
 //
 //     independent sound
+//     independent rewrite
 mod reading;
+mod rewriting;
 
 use std::io::{Read, Write};
 
 fn main() {
+    let what = std::env::args().nth(1).expect("sound or rewrite");
     let mut input = Vec::new();
     std::io::stdin().read_to_end(&mut input).unwrap();
     let mut out = std::io::BufWriter::new(std::io::stdout());
@@ -15,14 +18,22 @@ fn main() {
     while rest.len() >= 4 {
         let size = u32::from_le_bytes([rest[0], rest[1], rest[2], rest[3]]) as usize;
         let end = rest.len().min(4 + size);
-        out.write_all(answer(&rest[4..end]).as_bytes()).unwrap();
+        let answer = if what == "sound" { sound(&rest[4..end]) } else { rewrite(&rest[4..end]) };
+        match answer {
+            Ok(text) => out.write_all(text.as_bytes()).unwrap(),
+            Err((number, place)) => writeln!(out, "refused {} at {}", number, place).unwrap(),
+        }
         rest = &rest[end..];
     }
 }
 
-fn answer(book: &[u8]) -> String {
-    match reading::read_book(book) {
-        Ok(_) => "sound\n".to_string(),
-        Err((number, place)) => format!("refused {} at {}\n", number, place),
-    }
+fn sound(book: &[u8]) -> Result<String, reading::Refusal> {
+    reading::read_book(book)?;
+    Ok("sound\n".to_string())
+}
+
+fn rewrite(book: &[u8]) -> Result<String, reading::Refusal> {
+    let book = reading::read_book(book)?;
+    let found = rewriting::rewrite(&book)?;
+    Ok(rewriting::listing(&book, &found))
 }

@@ -1,15 +1,15 @@
 -- Members of the empty set, of a union, of a set with one more; when one set lies within another.
 use mathlib.Core.Path.{_≡_, refl, ap, sym, _∙_, subst}
 use mathlib.Core.Logic.{_⊎_, inl, inr, _↔_}
-use Prim.Native.Nat.{ℕ, zero, suc, _+_, _*_, _/_, _%_, _^_, _-_, _<_, _≤_, max}
+use Prim.Native.Nat.{ℕ, zero, suc, _+_, _*_, _/_, _%_, _^_, _-_, _<_, _≤_, max, min}
 use native.Mathlib.Omega.{arith}
 use native.Mathlib.Decide.{decLt}
 use native.Mathlib.Nat.{two-pow-succ, div-eq-of-lt}
-use mathlib.Core.Bool.{true}
+use mathlib.Core.Bool.{Bool, true, false}
 use borrow.Author.Tests.{eqb-true, eq-eqb}
-use lib.Bits.{bitOr, or-step, or-shr, or-comm, or-zero-l, shifted-even}
-use lib.Pow.{shl-shr, shl-exact, shr-shr, shr-le, pow-add, pow-lt}
-use Rattle.bits.specs.Sets.{Has, has, with}
+use lib.Bits.{bitOr, bitAnd, or-step, or-shr, or-comm, or-zero-l, and-step, and-shr}
+use lib.Pow.{shl-shr, shl-exact, shr-shr, shr-le, pow-add, pow-lt, field, mod-mod-pow, ones-split, high, ones-lt}
+use Rattle.bits.specs.Sets.{Has, has, with, below32, Within}
 
 pub has-true : (set x : ℕ) → has set x ≡ true → Has set x
 unfolding has Has
@@ -87,7 +87,7 @@ with-is set x h = let o : 1 * 2 ^ x ≡ 2 ^ x = omega arith in ap (bitOr set) (s
 pub within-or : (a b : ℕ) → bitOr a b ≡ b → (x : ℕ) → Has a x → Has b x
 within-or a b e x h = subst (λ n. Has n x) e (or-left a b x h)
 
-half-has : (a x : ℕ) → Has (a / 2) x ↔ Has a (suc x)
+pub half-has : (a x : ℕ) → Has (a / 2) x ↔ Has a (suc x)
 unfolding Has
 half-has a x = let e : a / 2 / 2 ^ x ≡ a / 2 ^ suc x = shr-shr a 1 x ∙ ap (λ n. a / 2 ^ n) (omega arith) in (λ h. ap (λ n. n % 2) (sym e) ∙ h, λ h. ap (λ n. n % 2) e ∙ h)
 
@@ -106,9 +106,59 @@ or-within-below (suc k) a b l h =
         bit zero e g = omega arith
         bit (suc n) e g = let w : b / 1 % 2 ≡ 1 = g (omega arith) in omega arith
 
+-- every number has fewer digits than itself
+pub below : (n : ℕ) → n < 2 ^ n
+below zero = omega arith
+below (suc n) = let p = two-pow-succ n in omega (arith, below n)
+
 pub or-within : (a b : ℕ) → ((x : ℕ) → Has a x → Has b x) → bitOr a b ≡ b
 or-within a b h = or-within-below a a b (below a) h
+
+-- sets apart have an empty meet, and the other way round
+pub apart-and : (a b : ℕ) → bitAnd a b ≡ 0 → (x : ℕ) → Has a x → Has b x → ⊥
+unfolding Has
+apart-and a b z x h k =
+    let e : 0 / 2 ^ x ≡ bitAnd (a / 2 ^ x / 2) (b / 2 ^ x / 2) * 2 + 1 = ap (λ n. n / 2 ^ x) (sym z) ∙ and-shr a b x ∙ and-step (a / 2 ^ x) (b / 2 ^ x) ∙ rw (h, k) in
+    omega (arith, shr-le 0 x)
+
+and-apart-below : (k a b : ℕ) → a < 2 ^ k → ((x : ℕ) → Has a x → Has b x → ⊥) → bitAnd a b ≡ 0
+unfolding Has
+and-apart-below zero a b l h = let z : a ≡ 0 = omega arith in rw z
+and-apart-below (suc k) a b l h =
+    let p = two-pow-succ k in
+    let ih : bitAnd (a / 2) (b / 2) ≡ 0 = and-apart-below k (a / 2) (b / 2) (omega arith) (λ x q r. h (suc x) (half-has a x .0 q) (half-has b x .0 r)) in
+    rw (and-step a b, ih) (omega (arith, bit (a % 2) (b % 2) (omega arith) (omega arith) (λ e f. h 0 (omega arith) (omega arith))))
   where
-    below : (n : ℕ) → n < 2 ^ n
-    below zero = omega arith
-    below (suc n) = let p = two-pow-succ n in omega (arith, below n)
+    bit : (m n : ℕ) → m < 2 → n < 2 → (m ≡ 1 → n ≡ 1 → ⊥) → min m n ≡ 0
+    bit zero n h k f = omega arith
+    bit (suc m) zero h k f = omega arith
+    bit (suc m) (suc n) h k f = absurd (f (omega arith) (omega arith))
+
+pub and-apart : (a b : ℕ) → ((x : ℕ) → Has a x → Has b x → ⊥) → bitAnd a b ≡ 0
+and-apart a b h = and-apart-below a a b (below a) h
+
+-- the members below 32
+pub low-has : (set x : ℕ) → x < 32 → Has set x → Has (below32 set) x
+unfolding Has below32
+low-has set x h e =
+    let j : (32 - x) + x ≡ 32 = omega arith in
+    let f : set % 2 ^ ((32 - x) + x) / 2 ^ x ≡ set / 2 ^ x % 2 ^ (32 - x) = field set (32 - x) x in
+    let i : (31 - x) + 1 ≡ 32 - x = omega arith in
+    let m : set / 2 ^ x % 2 ^ ((31 - x) + 1) % 2 ^ 1 ≡ set / 2 ^ x % 2 ^ 1 = mod-mod-pow (set / 2 ^ x) (31 - x) 1 in
+    ap (λ n. n % 2) (rw j at f) ∙ rw i at m ∙ e
+
+-- the set of all
+pub all-has : (x : ℕ) → x < 64 → Has 18446744073709551615 x
+unfolding Has
+all-has x h =
+    let j : suc (63 - x) + x ≡ 64 = omega arith in
+    let s : 2 ^ (suc (63 - x) + x) - 1 ≡ (2 ^ suc (63 - x) - 1) * 2 ^ x + (2 ^ x - 1) = ones-split (suc (63 - x)) x in
+    let q : 18446744073709551615 / 2 ^ x ≡ 2 ^ suc (63 - x) - 1 = ap (λ n. n / 2 ^ x) (rw j at s) ∙ high (2 ^ suc (63 - x) - 1) x (ones-lt x) in
+    rw q (omega (arith, two-pow-succ (63 - x), ones-lt (63 - x)))
+
+-- two answers on whether a set lies within another are the same
+pub within-once : (a b : ℕ) (r s : Bool) → Within a b r → Within a b s → r ≡ s
+within-once a b true true p q = refl
+within-once a b true false p q = sym (q .exactly .1 (p .exactly .0 refl))
+within-once a b false true p q = p .exactly .1 (q .exactly .0 refl)
+within-once a b false false p q = refl

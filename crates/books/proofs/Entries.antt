@@ -15,6 +15,7 @@ use Rattle.layout.specs.Numbers.{Bytes}
 use Rattle.layout.specs.BookLayout.{entries, SoundBook}
 use Rattle.layout.specs.Contents.{count, entriesIn, offsetAt, lengthAt, partAt}
 use Rattle.layout.specs.Refusals.{mostAt, SoundEntry, Reached, Refusal, six, seven, eight, Loads, Passes, Reads}
+use Rattle.layout.proofs.Within.{part-lent}
 use Rattle.layout.proofs.BookUnique.{reads-unique, sound-exactly}
 use Rattle.rules.specs.declared.Fault.{Fault}
 use Rattle.rules.specs.declared.Fault.the-variants.{Count, Relation, Tag, Variable, Early, Over}
@@ -33,11 +34,6 @@ most-summary zero h = absurd (omega arith)
 most-summary (suc zero) h = absurd (omega arith)
 most-summary (suc (suc i)) h = refl
 
--- the part from a place on, as the code cuts it, is the entry's own
-pub cut-part : (book : List ℕ) (i offset long : ℕ) → offset ≡ offsetAt book i → long ≡ lengthAt book i → take (offset + long - offset) (drop offset book) ≡ partAt book i
-unfolding partAt
-cut-part book i offset long o l = let e : offset + long - offset ≡ long = omega arith in rw (e, o, l)
-
 -- the code's count of entries is the book's
 pub all-entries : (book : List ℕ) (n all : ℕ) → n ≡ count book → all ≡ entries n → all ≡ entriesIn book
 unfolding entriesIn
@@ -53,8 +49,8 @@ module _ (book : List ℕ) (i : ℕ) where
       → Judged (take (start + long - start) (drop start book)) most (summaryAt i) (take (offset + size - offset) (drop offset book)) v → Verdicts v
   verdict-of start long offset size most v a b o l m j =
       subst (λ n. Judged (partAt book 0) n (summaryAt i) (partAt book i) v) m
-      (subst (λ part. Judged (partAt book 0) most (summaryAt i) part v) (cut-part book i offset size o l)
-      (subst (λ part. Judged part most (summaryAt i) (take (offset + size - offset) (drop offset book)) v) (cut-part book 0 start long a b) j))
+      (subst (λ part. Judged (partAt book 0) most (summaryAt i) part v) (part-lent book i offset size o l)
+      (subst (λ part. Judged part most (summaryAt i) (take (offset + size - offset) (drop offset book)) v) (part-lent book 0 start long a b) j))
 
   pub entry-sound : Verdicts Sound → SoundEntry book i
   entry-sound s = record { rule = s .rule; reads = s .layout; safe = s .safe; plain = λ h. s .plain (lt-ltb 1 i h) }

@@ -1,4 +1,5 @@
 -- What the answer on a whole book says, case by case.
+use mathlib.Core.Path.{_≡_}
 use mathlib.Core.Bool.{Bool}
 use mathlib.Core.List.{List}
 use Prim.Native.Nat.{ℕ}
@@ -8,6 +9,7 @@ use Rattle.layout.specs.BookLayout.{SoundBook}
 use Rattle.layout.specs.Refusals.{Refusal}
 use Rattle.books.specs.declared.Reading.{Reading}
 use Rattle.books.specs.declared.Reading.the-variants.{Sound, Refused}
+use Rattle.books.specs.declared.Told.{Told}
 
 -- "entry 1 the question, entry i + 1 summary i"
 abbrev pub summaryAt : ℕ → Bool
@@ -17,3 +19,13 @@ summaryAt i = ltb 1 i
 abbrev pub ReadingSays : List ℕ → Reading → Type 0
 ReadingSays book Sound = (b : Book) × SoundBook book b
 ReadingSays book (Refused k p) = Refusal book k p
+
+-- The same for callers in C: a sound book is number 0 at place 0, which is in no row of the table.
+abbrev pub toldOf : Reading → Told
+toldOf Sound = record { number = 0; place = 0 }
+toldOf (Refused k p) = record { number = k; place = p }
+
+pub record ToldSays (book : List ℕ) (told : Told) : Type 0 where
+  pub reading : Reading
+  pub says : ReadingSays book reading
+  pub is : told ≡ toldOf reading

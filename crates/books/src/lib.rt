@@ -4,7 +4,10 @@ ghost use Prim.Native.Nat.{_≤_, _<_};
 ghost use Rattle.layout.specs.Contents.{count, entriesIn, partAt};
 ghost use Rattle.layout.specs.Refusals.{Loads, mostAt};
 ghost use Rattle.rules.specs.Judged.{Judged, faultNumber, refusalNumber};
-ghost use Rattle.books.specs.Says.{ReadingSays, summaryAt};
+ghost use Rattle.books.specs.Says.{ReadingSays, ToldSays, summaryAt, toldOf};
+
+pub mod parts; // entries of a book that loads
+
 use contents::Loaded;
 use contents::fields::entries_of;
 use contents::fields::length_at;
@@ -93,4 +96,30 @@ pub fn read_book(book: &[u8]) -> Reading
         Loaded::Refused(k) => Reading::Refused(k, 0),
         Loaded::Good(n) => read_rules(book, n),
     }
+}
+
+// The same for callers in C: number 0 at place 0 is a sound book.
+#[repr(C)]
+pub struct Told {
+    pub number: u8,
+    pub place: usize,
+}
+
+fn tell(reading: Reading) -> Told
+    ensures { λ r. ⌜ r ≡ toldOf reading ⌝ }
+{
+    match reading {
+        Reading::Sound => Told {
+            number: 0,
+            place: 0,
+        },
+        Reading::Refused(number, place) => Told { number, place },
+    }
+}
+
+#[no_mangle]
+pub extern "C" fn tunesatchel_read_book(book: &[u8]) -> Told
+    ensures { λ r. ⌜ ToldSays (now (book .entry)) r ⌝ }
+{
+    tell(read_book(book))
 }

@@ -1,12 +1,13 @@
 -- How the walk over the entries finds out the rule of no gaps.
 use mathlib.Core.Path.{_≡_, ap, sym, _∙_}
 use mathlib.Core.List.{List}
-use Prim.Native.Nat.{ℕ, suc, _+_, _*_, _<_, _≤_}
+use Prim.Native.Nat.{ℕ, _+_, _*_, _<_, _≤_}
 use native.Mathlib.Numerals.{add-one}
 use native.Mathlib.Omega.{arith}
 use lib.ListN.{length}
 use borrow.Author.Count.{below-more}
 use Rattle.layout.specs.BookLayout.{entries, contentsEnd}
+use Rattle.layout.proofs.Within.{entries-counted}
 use Rattle.layout.specs.Contents.{count, entriesIn, offsetAt, lengthAt, beginAt, NoGaps}
 
 -- Each entry below i begins where it has to.
@@ -29,9 +30,8 @@ module _ (book : List ℕ) where
     unfolding contentsEnd
     start = rw (a, c)
 
-    pub all : m ≡ entriesIn book
-    unfolding entriesIn
-    all = a ∙ ap entries c
+    all : m ≡ entriesIn book
+    all = entries-counted book n m c a
 
     pub cut : length book < 2 + 12 * m → NoGaps book → ⊥
     cut h whole = omega (arith, start, whole .room)

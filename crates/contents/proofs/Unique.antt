@@ -1,10 +1,10 @@
 -- Any two results that meet a promise of this crate are equal. Of a part, where it lies and what it holds are settled: the rest of a reference's value is a name
--- that only proofs see.
+-- that only proofs see. For the functions whose promise names a number it is `number-unique` of the crate numbers.
 use mathlib.Core.Path.{_≡_, refl, ap, sym, _∙_}
 use mathlib.Core.List.{List, List-discrete}
-use Prim.Native.Nat.{ℕ, _+_, _<_}
+use Prim.Native.Nat.{ℕ, _<_}
 use native.Mathlib.Decide.{ℕ-discrete}
-use Rattle.layout.specs.Contents.{entriesIn, offsetAt, partAt}
+use Rattle.layout.specs.Contents.{entriesIn}
 use Rattle.layout.specs.Refusals.{Loads}
 use Rattle.layout.proofs.FirstFaults.{loads-unrefused, first-fault-unique}
 use Rattle.contents.specs.EntryPart.{Lent, LiesIn, EntryPart}
@@ -13,10 +13,6 @@ use Rattle.contents.specs.declared.Loaded.{Loaded}
 use Rattle.contents.specs.declared.Loaded.the-variants.{Good, Refused}
 use Rattle.contents.specs.declared.Step.{Step}
 use Rattle.contents.specs.declared.Step.the-variants.{Passed, Fault}
-
--- `u16_at`, `u32_at`, `entries_of`, `stamp_at`, and the first part of the promise of `offset_at` and `length_at`: the result is a number that is named.
-pub number-unique : (n r s : ℕ) → r ≡ n → s ≡ n → r ≡ s
-number-unique n r s p q = p ∙ sym q
 
 -- `load`
 pub load-unique : (book : List ℕ) (r s : Loaded) → LoadSays book r → LoadSays book s → r ≡ s

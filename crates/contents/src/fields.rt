@@ -22,7 +22,7 @@ pub fn entries_of(n: usize) -> usize
     n + 2
 }
 
-// Entry i's twelve bytes have to be there.
+// Entry i's twelve bytes have to be there: in a book that loads they are, for every entry that it has (`loads-room`).
 pub fn offset_at(book: &[u8], i: usize) -> usize
     requires { ⌜ 14 + 12 * i ≤ length (now book) ⌝ }
     ensures { λ r. ⌜ (r ≡ offsetAt (now (book .entry)) i) × (r < 4294967296) ⌝ }

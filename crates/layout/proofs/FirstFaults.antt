@@ -1,11 +1,9 @@
 -- Refusals 2 to 5 exclude each other, and exclude a book that loads.
 use mathlib.Core.Path.{_≡_, refl}
-use mathlib.Core.Logic.{_⊎_, inl, inr}
 use mathlib.Core.List.{List}
-use Prim.Native.Nat.{ℕ, _<_, _≤_}
+use Prim.Native.Nat.{ℕ}
 use native.Mathlib.Omega.{arith}
-use Rattle.layout.specs.BookLayout.{mostSummaries}
-use Rattle.layout.specs.Contents.{count, NoGaps}
+use Rattle.layout.specs.Contents.{NoGaps}
 use Rattle.layout.specs.Refusals.{Fault2, Fault3, Fault4, Fault5, Loads, Refusal, two, three, four, five, six, seven, eight}
 
 -- A refusal at place 0: the rules begin with entry 1, so it is one of the four that turn the contents down.

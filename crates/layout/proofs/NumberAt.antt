@@ -1,11 +1,11 @@
 -- The number at a place, byte by byte: its value and its bound, for every width.
-use mathlib.Core.Path.{_≡_, refl, ap, sym, _∙_}
+use mathlib.Core.Path.{_≡_, refl}
 use mathlib.Core.List.{List, [], _∷_}
 use Prim.Native.Nat.{ℕ, zero, suc, _+_, _*_, _<_, _^_}
 use native.Mathlib.Nat.{pow-succ'}
 use native.Mathlib.Numerals.{towards-suc}
 use native.Mathlib.Omega.{arith}
-use lib.ListN.{getD, take, drop}
+use lib.ListN.{getD}
 use lib.Seq.{drop-nil, take-nil}
 use Rattle.layout.specs.Numbers.{value, Bytes, numberAt}
 

@@ -1,5 +1,5 @@
 -- What the rule of no gaps gives a reader: where the contents and the bodies lie within the book.
-use mathlib.Core.Path.{_≡_, ap, _∙_}
+use mathlib.Core.Path.{_≡_, refl, ap, _∙_}
 use mathlib.Core.List.{List}
 use Prim.Native.Nat.{ℕ, zero, suc, _+_, _*_, _-_, _<_, _≤_}
 use native.Mathlib.Omega.{arith}
@@ -8,6 +8,10 @@ use lib.Seq.{getD-take, getD-drop}
 use Rattle.layout.specs.BookLayout.{entries, contentsEnd, mostSummaries}
 use Rattle.layout.specs.Contents.{count, entriesIn, offsetAt, lengthAt, beginAt, NoGaps, partAt}
 use Rattle.layout.specs.Refusals.{Loads}
+
+pub entries-are : (n : ℕ) → entries n ≡ n + 2
+unfolding entries
+entries-are n = refl
 
 module _ (book : List ℕ) where
   -- The twelve bytes of each entry lie within the contents.
@@ -44,6 +48,11 @@ module _ (book : List ℕ) where
   pub part-lent : (i o x : ℕ) → o ≡ offsetAt book i → x ≡ lengthAt book i → take (o + x - o) (drop o book) ≡ partAt book i
   unfolding partAt
   part-lent i o x e l = let many : o + x - o ≡ x = omega arith in rw (many, e, l)
+
+  -- How many entries there are, from the count.
+  pub entries-counted : (n m : ℕ) → n ≡ count book → m ≡ entries n → m ≡ entriesIn book
+  unfolding entriesIn
+  entries-counted n m c e = e ∙ ap entries c
 
   -- There is an entry 0, the relations, and an entry 1, the question.
   pub entries-some : 1 < entriesIn book

@@ -1,7 +1,7 @@
 -- What the machine's test of a signed number's sign gives.
 use mathlib.Core.Path.{_≡_, ap, sym, _∙_}
 use mathlib.Core.Bool.{Bool, true, false, not}
-use Prim.Native.Nat.{ℕ, suc, _+_, _<_, _^_}
+use Prim.Native.Nat.{ℕ, _<_, _^_}
 use native.Mathlib.Omega.{arith}
 use lib.IntN.{ℤ, pos, negsuc, _-ℤ_, natAbs}
 use lib.Signed.{ltZ, nonNeg}
@@ -10,8 +10,7 @@ use mir.Syntax.{w32, w64}
 use mir.Val.{toZ, ofZ, Fits, SFits}
 use mir.ValLaws.{toZ-ofZ}
 use borrow.Author.Tests.{le-ltb}
-use Rattle.words.specs.Words.{Rule}
-use Rattle.words.specs.Refresh.{ahead, lead, leadsBy, admitted}
+use Rattle.words.specs.Refresh.{ahead, lead, leadsBy}
 
 -- The test reads a number through its 32 bits.
 pub tested : (z : ℤ) (b : Bool) → SFits w32 z → ltZ (toZ w32 (ofZ w32 z)) (pos 0) ≡ b → ltZ z (pos 0) ≡ b

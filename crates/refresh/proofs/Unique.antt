@@ -1,12 +1,12 @@
 -- Any two results that meet a promise of this crate are equal.
-use mathlib.Core.Path.{_≡_, refl, ap, sym, _∙_}
+use mathlib.Core.Path.{_≡_, refl, sym, _∙_}
 use mathlib.Core.Bool.{Bool}
 use mathlib.Core.List.{[]}
 use Prim.Native.Nat.{ℕ}
 use native.Mathlib.Omega.{arith}
 use lib.IntN.{ℤ, natAbs}
 use Rattle.words.specs.Words.{Rule}
-use Rattle.words.specs.Refresh.{ahead, tie, lead, admitted}
+use Rattle.words.specs.Refresh.{lead, admitted}
 use Rattle.refresh.specs.LeadSays.{leadSays}
 use Rattle.refresh.specs.declared.Lead.{Lead}
 use Rattle.refresh.specs.declared.Lead.the-variants.{Ahead, Tie}

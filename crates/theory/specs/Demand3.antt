@@ -11,7 +11,7 @@ use Rattle.words.specs.Equal.{eqNumber}
 use Rattle.theory.specs.Held.{OverAdmitted}
 use Rattle.theory.specs.Same.{rewrites-held}
 use Rattle.theory.specs.Differ.{OnlyOne, Differs, answer-differs, refused-differs, differs-held}
-use Rattle.theory.specs.Sound.{SoundBook, sound-fits, sound-safe}
+use Rattle.theory.specs.Sound.{Granted, sound-fits, sound-safe}
 
 -- Finite facts, and a row that just one yields of the question over the facts and the rule over the summaries,
 -- whatever is stored, if "each admitted summary holds just what its definition yields on them".
@@ -37,7 +37,7 @@ pub record Demand3 (b : Book) : Type 1 where
 somewhere : (b : Book) (p : Rule ℕ) → OverAdmitted (admittedOf b) p → Differs (b .arities) (admittedOf b) (b .question) p → DiffersSomewhere b p
 somewhere b p over w = record { facts = w .facts; fit = w .fit; row = w .row; differs = differs-held (b .arities) (admittedOf b) (b .question) p over w }
 
-pub demand3 : (b : Book) → SoundBook b → Demand3 b
+pub demand3 : (b : Book) → Granted b → Demand3 b
 demand3 b sound = record {
   same = λ l a facts fit held just row. rewrites-held (admittedOf b) (b .question) l (a .holds) (Listed facts) held just row;
   fewer = λ l a p over few. somewhere b p over (answer-differs (b .arities) (admittedOf b) (b .question) p eqNumber (sound-safe b sound) (sound .question-fits) (sound-fits b sound) l a few);

@@ -33,7 +33,7 @@ module _ {A : Type 0} {Before : A → A → Type 0} (o : Strict Before) where
       go ih false true = omega arith
       go ih false false = omega arith
 
-  sorted-few : (l : List A) → length (sorted o l) ≤ length l
+  pub sorted-few : (l : List A) → length (sorted o l) ≤ length l
   sorted-few [] = omega arith
   sorted-few (a ∷ l) = omega (arith, insert-few a (sorted o l), sorted-few l)
 

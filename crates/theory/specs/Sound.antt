@@ -13,23 +13,23 @@ use Rattle.theory.specs.Held.{Every}
 use Rattle.theory.specs.Fit.{FitEvery}
 use Rattle.theory.specs.Suit.{DistinctHeads}
 
-pub record SoundSummary (arities : List ℕ) (r : Rule ℕ) : Type 0 where
+pub record GrantedSummary (arities : List ℕ) (r : Rule ℕ) : Type 0 where
   pub fits : AllFit arities (r .body)
   pub safe : Safe r
   pub distinct : DistinctVariables (r .head)
 
 -- "Summaries left out must be sound too."
-pub record SoundBook (b : Book) : Type 0 where
+pub record Granted (b : Book) : Type 0 where
   pub question-fits : AllFit (b .arities) (b .question .body)
   pub question-safe : Safe (b .question)
-  pub summaries-sound : (m : Summary) → m ∈ b .summaries → SoundSummary (b .arities) (m .rule)
+  pub summaries-sound : (m : Summary) → m ∈ b .summaries → GrantedSummary (b .arities) (m .rule)
 
 -- The summary's rule, if it is admitted.
 abbrev pub ruleOf : ℕ → Summary → Option (Rule ℕ)
 ruleOf need m = ifTrue (admitted need (m .stamp) (m .rule)) (m .rule)
 
 -- Each admitted rule is that of one of the book's summaries.
-from-summaries : (need : ℕ) (ms : List Summary) (n : ℕ) (r : Rule ℕ) → summary (map (ruleOf need) ms) n ≡ some r → (m : Summary) × (m ∈ ms) × (m .rule ≡ r)
+pub from-summaries : (need : ℕ) (ms : List Summary) (n : ℕ) (r : Rule ℕ) → summary (map (ruleOf need) ms) n ≡ some r → (m : Summary) × (m ∈ ms) × (m .rule ≡ r)
 from-summaries need [] n r e = absurd (Option·none-ne-some r e)
 from-summaries need (m ∷ ms) zero r e = absurd (Option·none-ne-some r e)
 from-summaries need (m ∷ ms) (suc zero) r e = (m, List·Memᴰ·head refl, go (admitted need (m .stamp) (m .rule)) e)
@@ -39,14 +39,17 @@ from-summaries need (m ∷ ms) (suc zero) r e = (m, List·Memᴰ·head refl, go 
     go false p = absurd (Option·none-ne-some r p)
 from-summaries need (m ∷ ms) (suc (suc n)) r e = let w = from-summaries need ms (suc n) r e in (w .0, List·Memᴰ·tail (w .1), w .2)
 
-sound-admitted : (b : Book) → SoundBook b → Every (admittedOf b) (SoundSummary (b .arities))
-sound-admitted b sound n r e = let w = from-summaries (b .need) (b .summaries) n r e in subst (SoundSummary (b .arities)) (w .2) (sound .summaries-sound (w .0) (w .1))
+pub admitted-from : (b : Book) (n : ℕ) (r : Rule ℕ) → summary (admittedOf b) n ≡ some r → (m : Summary) × (m ∈ b .summaries) × (m .rule ≡ r)
+admitted-from b n r e = from-summaries (b .need) (b .summaries) n r e
 
-pub sound-fits : (b : Book) → SoundBook b → FitEvery (b .arities) (admittedOf b)
+sound-admitted : (b : Book) → Granted b → Every (admittedOf b) (GrantedSummary (b .arities))
+sound-admitted b sound n r e = let w = admitted-from b n r e in subst (GrantedSummary (b .arities)) (w .2) (sound .summaries-sound (w .0) (w .1))
+
+pub sound-fits : (b : Book) → Granted b → FitEvery (b .arities) (admittedOf b)
 sound-fits b sound n r e = sound-admitted b sound n r e .fits
 
-pub sound-safe : (b : Book) → SoundBook b → AllSafe (admittedOf b)
+pub sound-safe : (b : Book) → Granted b → AllSafe (admittedOf b)
 sound-safe b sound n r e = sound-admitted b sound n r e .safe
 
-pub sound-distinct : (b : Book) → SoundBook b → DistinctHeads (admittedOf b)
+pub sound-distinct : (b : Book) → Granted b → DistinctHeads (admittedOf b)
 sound-distinct b sound n r e = sound-admitted b sound n r e .distinct

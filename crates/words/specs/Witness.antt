@@ -23,11 +23,11 @@ use Rattle.words.specs.Ways.{factOf, ways, ways-sound, ways-complete}
 use Rattle.words.specs.Named.{written, BytesBefore, Names, places, places-names, pairs, pairs-names}
 
 -- the same bytes before both change nothing; bytes before others, as many, stay so whatever follows
-same-front : (l x y : List ℕ) → ListBefore _<_ x y → ListBefore _<_ (l ++ x) (l ++ y)
+pub same-front : (l x y : List ℕ) → ListBefore _<_ x y → ListBefore _<_ (l ++ x) (l ++ y)
 same-front [] x y h = h
 same-front (n ∷ l) x y h = inr (refl, same-front l x y h)
 
-before-front : (l m x y : List ℕ) → length l ≡ length m → ListBefore _<_ l m → ListBefore _<_ (l ++ x) (m ++ y)
+pub before-front : (l m x y : List ℕ) → length l ≡ length m → ListBefore _<_ l m → ListBefore _<_ (l ++ x) (m ++ y)
 before-front [] [] x y e h = absurd h
 before-front [] (n ∷ m) x y e h = let z : ⊥ = omega arith in absurd z
 before-front (n ∷ l) [] x y e h = absurd h

@@ -1,15 +1,13 @@
 use borrow.Author.Needs.{needs}
-use mathlib.Core.Path.{_≡_, refl, _∙_}
+use mathlib.Core.Path.{_≡_, refl}
 use Prim.Native.Nat.{_+_, _*_, _≤_, _<_}
 use native.Mathlib.Omega.{arith}
 use lib.ListN.{length}
-use Rattle.layout.specs.BookLayout.{entries}
 use Rattle.layout.specs.Contents.{count, entriesIn}
 use Rattle.layout.specs.Refusals.{Loads}
-use Rattle.layout.proofs.Within.{loads-room, part-within, part-lent}
+use Rattle.layout.proofs.Within.{entries-counted, loads-room, part-within, part-lent}
 use Rattle.layout.proofs.FirstFaults.{loads-unrefused}
 use Rattle.contents.proofs.Answers.{good, refused}
-use Rattle.contents.proofs.EntryWalk.{all}
 use Rattle.contents.proofs.entry.Statement.{statement}
 use Rattle.contents.proofs.entry.Tie as tie
 
@@ -30,7 +28,7 @@ entries-of-requires : tie.Need-entries-of-requires
 entries-of-requires c κs = omega (arith, loaded c .0 .few, loaded c .1)
 
 counted : (c : tie.After-entries-of) → c .entries-of .result ≡ entriesIn (c .before .before .before .before .before .before .args .book .now)
-counted c = all (c .before .before .before .before .before .before .args .book .now) (c .before .before .n .given .0 .0) _ (loaded (c .before) .1) (c .entries-of .ensures)
+counted c = entries-counted (c .before .before .before .before .before .before .args .book .now) (c .before .before .n .given .0 .0) _ (loaded (c .before) .1) (c .entries-of .ensures)
 
 -- An entry above the last: the empty part.
 returns-2 : tie.Need-returns-2
@@ -40,13 +38,13 @@ returns-2 c =
       none = λ f. record { block = refl; place = omega arith; holds = refl };
     }
 
+within : (c : tie.Else1) → c .before .before .before .before .before .before .before .args .i < entriesIn (c .before .before .before .before .before .before .before .args .book .now)
+within c = omega (arith, counted (c .before))
+
 room : (c : tie.Else1) → 14 + 12 * c .before .before .before .before .before .before .before .args .i ≤ length (c .before .before .before .before .before .before .before .args .book .now)
 room c =
     let s = c .before .before .before .before .before .before .before in
-    loads-room (s .args .book .now) (s .args .i) (loaded (c .before .before) .0) (omega (arith, counted (c .before)))
-
-within : (c : tie.Else1) → c .before .before .before .before .before .before .before .args .i < entriesIn (c .before .before .before .before .before .before .before .args .book .now)
-within c = omega (arith, counted (c .before))
+    loads-room (s .args .book .now) (s .args .i) (loaded (c .before .before) .0) (within c)
 
 part-result-end-3 : tie.Need-part-result-end-3
 part-result-end-3 c =

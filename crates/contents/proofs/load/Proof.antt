@@ -1,8 +1,7 @@
 use borrow.Author.Needs.{needs}
-use mathlib.Core.Path.{sym, _∙_}
 use native.Mathlib.Omega.{arith}
-use Rattle.layout.specs.Contents.{NoGaps, RightRelations}
-use Rattle.layout.specs.Refusals.{Fault2, Fault3, Fault4, Fault5, four, five}
+use Rattle.layout.specs.Contents.{NoGaps}
+use Rattle.layout.specs.Refusals.{Fault2, Fault3, four, five}
 use Rattle.contents.proofs.Answers.{passed, faulty}
 use Rattle.contents.proofs.Sizes.{too-short, too-long, right-size, too-many}
 use Rattle.contents.proofs.load.Statement.{statement}

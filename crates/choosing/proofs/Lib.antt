@@ -1,0 +1,5 @@
+pub mod Tests
+pub mod Pruned
+pub mod Uses
+pub mod Steps
+pub mod Unique

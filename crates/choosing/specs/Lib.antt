@@ -1,0 +1,4 @@
+pub mod Posed
+pub mod Chosen
+pub mod Pruning
+pub mod Passing

@@ -1,0 +1,14 @@
+pub mod Slots
+pub mod Clear
+pub mod Judging
+pub mod Guess
+pub mod Open
+pub mod Without
+pub mod Taken
+pub mod Crossing
+pub mod Refuted
+pub mod Laid
+pub mod Answered
+pub mod Chain
+pub mod Verdicts
+pub mod Unique

@@ -1,0 +1,30 @@
+use borrow.Author.Needs.{needs}
+use Prim.Native.Nat.{_-_}
+use Rattle.placing.proofs.Clear.{Cleared, clear-start, clear-more, clear-end, clear-none}
+use Rattle.placing.proofs.opened.Statement.{statement}
+use Rattle.placing.proofs.opened.Tie as tie
+
+abbrev Inv-loop : tie.InvT-loop
+Inv-loop last h₀ x₀ h x = Cleared h₀ h x
+
+abbrev μ-loop : tie.MeasureT-loop
+μ-loop last h₀ x₀ h x = 64 - x
+
+pub opened-spec : {M : Type 1} → statement M
+opened-spec =
+    tie.close
+    (tie.spec
+    Inv-loop
+    μ-loop
+    -- returns
+    (λ c. clear-none _ _ (search needs) (c .if1 .taken))
+    -- loop-holds
+    (λ c. clear-start _ (search needs))
+    (λ c. search needs)
+    (λ c. search needs)
+    (λ c. search needs)
+    (λ c. search needs)
+    -- loop-again
+    (λ c. clear-more _ _ _ (c .loop-test .taken) (c .before .loop .inv))
+    -- returns-2
+    (λ c. clear-end _ _ _ _ (c .before .before .if1 .left) (c .loop-test .left) (c .before .loop .inv)))

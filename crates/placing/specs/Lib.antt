@@ -1,0 +1,5 @@
+pub mod Task
+pub mod Taking
+pub mod Mapped
+pub mod Answer
+pub mod Steps
