@@ -21,7 +21,7 @@ use Rattle.wording.specs.Codes.{tabled}
 use Rattle.builders.specs.Heads.{HeadWords, HeadBindings}
 use Rattle.wording.specs.Laid.{Laid}
 use Rattle.wording.specs.Promises.{HeadCount}
-use Rattle.wording.specs.Standing.{Many, SomeTerms}
+use Rattle.wording.specs.Steps.{Many, SomeTerms}
 use Rattle.wording.specs.Tables.{BaseTable}
 use Rattle.wording.proofs.CodeLaws.{tabled-based, based-term}
 use Rattle.wording.proofs.NineSteps.{TermsStored, eight-end}

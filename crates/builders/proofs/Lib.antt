@@ -1,5 +1,6 @@
 pub mod HeadSteps
 pub mod QuestionTerms
 pub mod TermWords
+pub mod TermsListed
 pub mod UseLaws
 pub mod Unique

@@ -22,11 +22,11 @@ padded-in zero (x ∷ l) w h i = absurd (omega arith)
 padded-in (suc n) (x ∷ l) w h (List·Memᴰ·head e) = List·Memᴰ·head e
 padded-in (suc n) (x ∷ l) w h (List·Memᴰ·tail i) = List·Memᴰ·tail (padded-in n l w (omega arith) i)
 
-above-tag : (t : Term ℕ) → variableTag ≤ termCode t
+pub above-tag : (t : Term ℕ) → variableTag ≤ termCode t
 above-tag (var x) = omega arith
 above-tag (con c) = omega arith
 
-map-in : {A B : Type 0} (f : A → B) (l : List A) (a : A) → a ∈ l → f a ∈ map f l
+pub map-in : {A B : Type 0} (f : A → B) (l : List A) (a : A) → a ∈ l → f a ∈ map f l
 map-in f (b ∷ l) a (List·Memᴰ·head e) = List·Memᴰ·head (ap f e)
 map-in f (b ∷ l) a (List·Memᴰ·tail i) = List·Memᴰ·tail (map-in f l a i)
 

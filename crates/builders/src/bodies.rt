@@ -1,9 +1,7 @@
 // A rule's body as words and widths.
-ghost use mathlib.Core.Path.{_≡_};
-ghost use Prim.Native.Nat.{_<_};
 ghost use lib.ListN.{length};
 ghost use Rattle.coding.specs.Code.{slotCode, termCode};
-ghost use Rattle.wording.specs.Codes.{based};
+ghost use Rattle.wording.specs.Codes.{Base, based};
 ghost use Rattle.wording.specs.Laid.{LaidFor};
 ghost use Rattle.wording.specs.Promises.{BodyWords, BodyWidths};
 use wording::places::VARIABLE;
@@ -13,7 +11,7 @@ use wording::tables::base_table;
 
 // Nine words and a width for each subgoal; the variables count from the base on.
 fn body_words(body: &[u8], relations: &[u8], base: u64, out: &mut [u64], widths: &mut [u8]) -> usize
-    requires { ⌜ LaidFor (now relations) (now body) 9 (length (now out)) × LaidFor (now relations) (now body) 1 (length (now widths)) × (base < 9223372036854775808) ⌝ }
+    requires { ⌜ LaidFor (now relations) (now body) 9 (length (now out)) × LaidFor (now relations) (now body) 1 (length (now widths)) × Base base ⌝ }
     ensures { λ r. ⌜ BodyWords (now (relations .entry)) (now (body .entry)) (based base) (now (out .entry)) (now (out .exit)) r × BodyWidths (now (relations .entry)) (now (body .entry)) (now (widths .entry)) (now (widths .exit)) r ⌝ }
 {
     put_widths(body, relations, widths);

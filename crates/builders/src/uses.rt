@@ -1,9 +1,8 @@
 // One use of a summary: its body's words in place of a summary subgoal.
-ghost use mathlib.Core.Path.{_≡_};
 ghost use Prim.Native.Nat.{ℕ, _<_};
 ghost use lib.ListN.{length};
 ghost use Rattle.coding.specs.Code.{ownCode, ownSlot, keptSlot};
-ghost use Rattle.wording.specs.Codes.{basedUse};
+ghost use Rattle.wording.specs.Codes.{Base, basedUse};
 ghost use Rattle.wording.specs.Laid.{UseFor};
 ghost use Rattle.builders.specs.Uses.{UseWords};
 use wording::places::VARIABLE;
@@ -22,7 +21,7 @@ fn use_words(
     base: u64,
     out: &mut [u64],
 ) -> usize
-    requires { ⌜ UseFor (now relations) (now body) (now row) (length (now out)) × (olds < 9223372036854775808) × (base < 9223372036854775808) ⌝ }
+    requires { ⌜ UseFor (now relations) (now body) (now row) (length (now out)) × Base olds × Base base ⌝ }
     ensures { λ r. ⌜ ((u : ℕ) → UseWords (now (relations .entry)) (now (body .entry)) (now (row .entry)) (basedUse olds base) u (now (out .entry)) (now (out .exit)) r) ⌝ }
 {
     let table = use_table(body, row, olds, base);

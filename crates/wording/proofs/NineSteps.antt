@@ -8,7 +8,7 @@ use lib.Seq.{sets}
 use Rattle.words.specs.Words.{Term, Subgoal}
 use Rattle.coding.specs.Code.{padded}
 use Rattle.wording.specs.Codes.{tabled}
-use Rattle.wording.specs.Standing.{Many, GoalAt, PaddedAt, NineAt}
+use Rattle.wording.specs.Steps.{Many, GoalAt, PaddedAt, NineAt}
 use Rattle.wording.proofs.Stores.{stores-more, stores-end, stores-whole}
 use Rattle.wording.proofs.WordLaws.{padded-length, padded-at}
 

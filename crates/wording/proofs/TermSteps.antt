@@ -12,7 +12,7 @@ use Rattle.layout.specs.Standing.{TermAt}
 use Rattle.layout.proofs.Places.{nothing, place-some}
 use Rattle.coding.specs.Code.{constantTag}
 use Rattle.wording.specs.Codes.{tabled}
-use Rattle.wording.specs.Standing.{SomeTerm, SomeTerms, Many, WordAt, PaddedAt}
+use Rattle.wording.specs.Steps.{SomeTerm, SomeTerms, Many, WordAt, PaddedAt}
 
 module _ (bytes : List ℕ) (at n : ℕ) (e : n ≡ numberAt 4 bytes (at + 1)) where
   pub constant : (table : List ℕ) → getD bytes at 0 ≡ 1 → WordAt bytes at table (constantTag + n)

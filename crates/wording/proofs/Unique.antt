@@ -8,7 +8,7 @@ use lib.Seq.{ext-getD}
 use Rattle.words.specs.Words.{Term}
 use Rattle.wording.specs.Laid.{Laid, LaidFor, SomeUse}
 use Rattle.wording.specs.Promises.{HeadCount, GoalCount, BodyWords, BodyWidths}
-use Rattle.wording.specs.Standing.{SomeTerm, SomeTerms, WordAt, PaddedAt}
+use Rattle.wording.specs.Steps.{SomeTerm, SomeTerms, WordAt, PaddedAt}
 use Rattle.wording.specs.Tables.{BaseTable, UseTable}
 
 module _ {bytes : List ℕ} (l : Laid bytes) where

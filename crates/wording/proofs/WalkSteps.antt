@@ -10,7 +10,7 @@ use Rattle.layout.specs.RuleLayout.{Layout}
 use Rattle.wording.specs.Codes.{tabled}
 use Rattle.wording.specs.Laid.{LaidFor}
 use Rattle.wording.specs.Promises.{HeadCount, GoalCount, BodyWords, BodyWidths}
-use Rattle.wording.specs.Standing.{SomeGoal, NineAt}
+use Rattle.wording.specs.Steps.{SomeGoal, NineAt}
 use Rattle.wording.proofs.Walks.{Ahead, Next, next-goal}
 use Rattle.wording.proofs.SoFar.{Writing, Stored, SoFar, so-long, so-ends, asWidths, byTable}
 

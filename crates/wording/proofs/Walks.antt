@@ -13,7 +13,7 @@ use Rattle.layout.proofs.Places.{place-some, place-in}
 use Rattle.layout.proofs.RulePlaces.{goalStart, first-start, next-start, start-bound, goal-relation, goal-terms}
 use Rattle.wording.specs.Laid.{Laid, LaidFor}
 use Rattle.wording.specs.Promises.{HeadCount, GoalCount}
-use Rattle.wording.specs.Standing.{GoalAt}
+use Rattle.wording.specs.Steps.{GoalAt}
 
 pub laid : {arities bytes : List ℕ} {each area : ℕ} → LaidFor arities bytes each area → Laid bytes
 laid {arities} w = record { arities = arities; most = w .most; rule = w .rule; layout = w .layout }

@@ -1,9 +1,9 @@
 -- Subgoals as words: how many, and subgoal by subgoal.
 use mathlib.Core.Path.{_≡_, refl, sym, ap}
 use mathlib.Core.List.{List, [], _∷_, _++_, map, append-assoc, append-nil}
-use Prim.Native.Nat.{ℕ, zero, suc, _*_, _<_}
+use Prim.Native.Nat.{ℕ, zero, suc, _*_, _<_, _≤_}
 use native.Mathlib.Omega.{arith}
-use lib.ListN.{length, getD, length-append}
+use lib.ListN.{length, getD, take, length-append}
 use Rattle.words.specs.Words.{Subgoal}
 use Rattle.coding.specs.Code.{padded, subgoalWords, wordsOf, widthsOf}
 
@@ -18,6 +18,12 @@ padded-at (suc n) [] zero h = refl
 padded-at (suc n) [] (suc k) h = padded-at n [] k (omega arith)
 padded-at (suc n) (x ∷ l) zero h = refl
 padded-at (suc n) (x ∷ l) (suc k) h = padded-at n l k (omega arith)
+
+-- a row's words, filled up to eight, begin with the words
+pub padded-front : (n : ℕ) (l : List ℕ) → length l ≤ n → take (length l) (padded n l) ≡ l
+padded-front n [] h = refl
+padded-front zero (x ∷ l) h = absurd (omega arith)
+padded-front (suc n) (x ∷ l) h = ap (_∷_ x) (padded-front n l (omega arith))
 
 module _ {A : Type 0} (code : A → ℕ) where
   pub nine : (g : Subgoal A) → length (subgoalWords code g) ≡ 9

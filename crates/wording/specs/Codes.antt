@@ -1,6 +1,6 @@
--- The words of terms by what the variables' words are, so that one builder serves every code of crate coding; proofs/CodeLaws.antt ties them to those.
+-- The words of terms by what the variables' words are, so that one builder serves every code of crate coding; laws tie each to those.
 use mathlib.Core.List.{List, _++_}
-use Prim.Native.Nat.{ℕ, _+_}
+use Prim.Native.Nat.{ℕ, _+_, _<_}
 use lib.ListN.{length, getD, drop}
 use Rattle.words.specs.Words.{Term, var, con}
 use Rattle.words.specs.Summaries.{Own, old, fresh}
@@ -10,6 +10,10 @@ use Rattle.coding.specs.Code.{constantTag}
 abbrev pub tabled : List ℕ → Term ℕ → ℕ
 tabled table (var x) = getD table x 0
 tabled table (con c) = constantTag + c
+
+-- A base that variables' numbers count from: the sums fit a word.
+abbrev pub Base : ℕ → Type 0
+Base base = base < 9223372036854775808
 
 -- Variables count from a base: that is `slotCode` from 0 on, and `termCode` from `variableTag` on.
 abbrev pub based : ℕ → Term ℕ → ℕ

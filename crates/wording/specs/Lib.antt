@@ -1,5 +1,5 @@
 pub mod Codes
 pub mod Laid
 pub mod Promises
-pub mod Standing
+pub mod Steps
 pub mod Tables

@@ -1,10 +1,9 @@
 // What stands where in a rule's bytes.
 ghost use mathlib.Core.Path.{_≡_};
-ghost use Prim.Native.Nat.{ℕ, _+_, _*_, _<_, _≤_};
-ghost use lib.ListN.{length, getD};
+ghost use Prim.Native.Nat.{_<_};
 ghost use Rattle.wording.specs.Laid.{Laid};
 ghost use Rattle.wording.specs.Promises.{HeadCount, GoalCount};
-ghost use Rattle.wording.specs.Standing.{SomeTerm, SomeTerms, WordAt, PaddedAt};
+ghost use Rattle.wording.specs.Steps.{SomeTerm, SomeTerms, WordAt, PaddedAt};
 
 // The tags of a variable and of a constant, in units of 2^32.
 pub const VARIABLE: u64 = 4294967296;

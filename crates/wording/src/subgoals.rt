@@ -1,11 +1,11 @@
 // A body's subgoals as words, nine each, and as widths.
 ghost use mathlib.Core.Path.{_≡_};
-ghost use Prim.Native.Nat.{ℕ, _+_, _*_, _<_, _≤_};
+ghost use Prim.Native.Nat.{_+_, _<_, _≤_};
 ghost use lib.ListN.{length, getD};
 ghost use Rattle.wording.specs.Codes.{tabled};
 ghost use Rattle.wording.specs.Laid.{LaidFor};
 ghost use Rattle.wording.specs.Promises.{BodyWords, BodyWidths};
-ghost use Rattle.wording.specs.Standing.{SomeGoal, NineAt};
+ghost use Rattle.wording.specs.Steps.{SomeGoal, NineAt};
 use super::places::goal_count;
 use super::places::head_count;
 use super::places::padded_at;

@@ -1,6 +1,5 @@
 // Tables of the words of a rule's variables, 0 to 31.
-ghost use mathlib.Core.Path.{_≡_};
-ghost use Prim.Native.Nat.{ℕ, _<_};
+ghost use Rattle.wording.specs.Codes.{Base};
 ghost use Rattle.wording.specs.Laid.{SomeUse};
 ghost use Rattle.wording.specs.Tables.{BaseTable, TermWord, OldWord, UseTable};
 use super::places::CONSTANT;
@@ -9,7 +8,7 @@ use super::places::head_count;
 
 // The variables count from the base on.
 pub fn base_table(base: u64) -> [u64; 32]
-    requires { ⌜ base < 9223372036854775808 ⌝ }
+    requires { ⌜ Base base ⌝ }
     ensures { λ r. ⌜ BaseTable base 32 r ⌝ }
 {
     let mut table = [0u64; 32];
@@ -23,7 +22,7 @@ pub fn base_table(base: u64) -> [u64; 32]
 
 // A term's word where variables count from another base.
 fn old_word(word: u64, olds: u64) -> u64
-    requires { ⌜ TermWord word × (olds < 9223372036854775808) ⌝ }
+    requires { ⌜ TermWord word × Base olds ⌝ }
     ensures { λ r. ⌜ OldWord olds word r ⌝ }
 {
     if word < CONSTANT {
@@ -34,7 +33,7 @@ fn old_word(word: u64, olds: u64) -> u64
 
 // The words of a summary's variables in one use: those of its head have the row's terms, the others count from the base on.
 pub fn use_table(body: &[u8], row: &[u64], olds: u64, base: u64) -> [u64; 32]
-    requires { ⌜ SomeUse (now body) (now row) × (olds < 9223372036854775808) × (base < 9223372036854775808) ⌝ }
+    requires { ⌜ SomeUse (now body) (now row) × Base olds × Base base ⌝ }
     ensures { λ r. ⌜ UseTable (now (body .entry)) (now (row .entry)) olds base r ⌝ }
 {
     let mut table = base_table(base);
