@@ -9,3 +9,4 @@ pub mod WalkSteps
 pub mod TableSteps
 pub mod CodeLaws
 pub mod UseLaws
+pub mod HeadSteps

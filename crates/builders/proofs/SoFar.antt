@@ -55,7 +55,7 @@ asWidths = record {
 }
 
 -- the elements up to a place, and the one there
-take-place : {A : Type 0} (l : List A) (i : ℕ) (a : A) → place l (suc i) ≡ some a → take (suc i) l ≡ take i l ++ (a ∷ [])
+pub take-place : {A : Type 0} (l : List A) (i : ℕ) (a : A) → place l (suc i) ≡ some a → take (suc i) l ≡ take i l ++ (a ∷ [])
 take-place [] i a p = nothing p
 take-place (b ∷ l) zero a p = let same : b ≡ a = cc in ap (λ c. c ∷ []) same
 take-place (b ∷ l) (suc i) a p = ap (_∷_ b) (take-place l i a p)

@@ -1,4 +1,5 @@
 pub mod Codes
+pub mod Heads
 pub mod Laid
 pub mod Standing
 pub mod Tables

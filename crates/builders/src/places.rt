@@ -12,7 +12,7 @@ pub(crate) const VARIABLE: u64 = 4294967296;
 pub(crate) const CONSTANT: u64 = 8589934592;
 
 // The word where a subgoal's terms have ended.
-const NONE: u64 = 1;
+pub(crate) const NONE: u64 = 1;
 
 // A byte as a count.
 pub(crate) fn wide(x: u8) -> usize
