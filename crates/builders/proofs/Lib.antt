@@ -10,3 +10,6 @@ pub mod TableSteps
 pub mod CodeLaws
 pub mod UseLaws
 pub mod HeadSteps
+pub mod InOrderSteps
+pub mod TermWords
+pub mod QuestionTerms

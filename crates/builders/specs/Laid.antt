@@ -4,6 +4,7 @@ use mathlib.Core.List.{List, map}
 use Prim.Native.Nat.{ℕ, _*_, _≤_}
 use lib.ListN.{length, take}
 use Rattle.words.specs.Words.{Term, Rule, DistinctVariables}
+use Rattle.layout.specs.BookLayout.{Arities, questionMost}
 use Rattle.layout.specs.RuleLayout.{TermsWithin, Layout}
 use Rattle.coding.specs.Code.{termCode}
 
@@ -20,6 +21,12 @@ pub record LaidFor (arities bytes : List ℕ) (each area : ℕ) : Type 0 where
   pub rule : Rule ℕ
   pub layout : Layout arities most bytes rule
   pub room : each * length (rule .body) ≤ area
+
+-- A question over these relations.
+pub record QuestionLaid (arities bytes : List ℕ) : Type 0 where
+  pub known : Arities arities
+  pub rule : Rule ℕ
+  pub layout : Layout arities questionMost bytes rule
 
 -- A use of a summary: the bytes are the summary's, and the row has the words of as many terms as its head.
 pub record UseOf (arities bytes row : List ℕ) (v : Rule ℕ) (ts : List (Term ℕ)) : Type 0 where

@@ -1,5 +1,6 @@
 pub mod Codes
 pub mod Heads
+pub mod InOrder
 pub mod Laid
 pub mod Standing
 pub mod Tables
