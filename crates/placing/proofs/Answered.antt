@@ -8,15 +8,16 @@ use native.Mathlib.Omega.{arith}
 use native.Mathlib.Decide.{ℕ-discrete, decLt}
 use native.Mathlib.Numerals.{add-one}
 use lib.ListN.{length, getD, set, replicate}
-use Rattle.bits.specs.Sets.{Has, with}
+use Rattle.bits.specs.Sets.{Has}
 use Rattle.words.specs.Order.{ListBefore, First}
 use Rattle.placing.specs.Task.{Task, goals, targets, targetRelation, sourceRelation, widthOf, lastOf, rowOf, Agrees, Linked, Completes, done, put, Extends}
-use Rattle.placing.specs.Taking.{Enters, leftAfter, Affords, Open}
+use Rattle.placing.specs.Taking.{Enters, Affords, Open}
 use Rattle.placing.specs.Mapped.{laid}
 use Rattle.placing.specs.Answer.{AgreesOn, FromOn, Completion, Afforded, Failed, Answer}
-use Rattle.placing.specs.Steps.{Opened, Entering, Settled, seeing, carrying, found, failed}
+use Rattle.placing.specs.Steps.{Opened, Entering, Settled, entering, seeing, carrying, found, failed}
 use Rattle.placing.specs.declared.Reasons.{Reasons}
 use Rattle.placing.specs.declared.Placed.{Placed}
+use Rattle.placing.specs.declared.Rows.{Rows}
 use Rattle.placing.specs.declared.Entered.{Entered}
 use Rattle.placing.proofs.Guess.{Guess}
 use Rattle.placing.proofs.Open.{open-with, open-tail, affords-open}
@@ -38,7 +39,7 @@ record Step (p : Task) (at : ℕ) (v : ℕ → ℕ) (js : List ℕ) : Type 0 whe
 taken : (p : Task) (at : ℕ) (v : ℕ → ℕ) (js : List ℕ) → Completes p (suc (goals p - suc at)) at v js → Step p at v js
 taken p at v js (put i g n s) = record { k = _; ks = _; w = _; is = refl; within = i; agrees = g; linked = n; rest = s }
 
-module _ (p : Task) (at : ℕ) (b : List ℕ) (from used may left : ℕ) (more : at < goals p) where
+module _ (p : Task) (at : ℕ) (b : List ℕ) (from : ℕ) (rows : Rows) (more : at < goals p) where
   again : goals p - at ≡ suc (goals p - suc at)
   again = omega arith
 
@@ -46,21 +47,21 @@ module _ (p : Task) (at : ℕ) (b : List ℕ) (from used may left : ℕ) (more :
   step v js q = taken p at v js (rw again at q)
 
   -- every target is passed over
-  pub answer-none : (why : Reasons) (m : ℕ) → targets p ≤ m → Refuted p at b from used may left why m → Answer p at b from used may left (failed why)
+  pub answer-none : (why : Reasons) (m : ℕ) → targets p ≤ m → Refuted p at b from rows why m → Answer p at b from rows (failed why)
   unfolding Refuted
   answer-none why m h ref = record { found = λ e. absurd (false≢true e); none = λ e. record { never = never } }
     where
-      never : (v : ℕ → ℕ) (l : List ℕ) → AgreesOn b (why .slots) v → FromOn from l → Completes p (goals p - at) at v l → Open p used may l → (why .short ≡ true → Affords p used may left l) → ⊥
+      never : (v : ℕ → ℕ) (l : List ℕ) → AgreesOn b (why .slots) v → FromOn from l → Completes p (goals p - at) at v l → Open p (rows .used) (rows .may) l → (why .short ≡ true → Affords p (rows .used) (rows .may) (rows .left) l) → ⊥
       never v l a f q o d =
           let s = step v l q in
           ref (s .k) (rw (s .is) at f) (omega (arith, s .within)) (record { v = v; w = s .w; l = s .ks; agreesOn = a; agrees = s .agrees; linked = s .linked; rest = s .rest; allowed = rw (s .is) at o; affords = λ y. rw (s .is) at (d y) })
 
   module _ (k : ℕ) (g h : List ℕ) (new : ℕ) (c : Guess p b at k (widthOf p at) g new) (o : Opened (lastOf p at) g h) where
     -- the jump: whatever the target, the rest fails for the same reasons
-    jump : (less : Reasons) → Failed p (suc at) h 0 (with used (rowOf p k)) may (leftAfter used left (rowOf p k)) less → less .short ≡ false → ((x : ℕ) → Has (seeing less (lastOf p at) .slots) x → Has new x → ⊥) → Failed p at b from used may left (seeing less (lastOf p at))
+    jump : (less : Reasons) → Failed p (suc at) h 0 (entering rows (rowOf p k)) less → less .short ≡ false → ((x : ℕ) → Has (seeing less (lastOf p at) .slots) x → Has new x → ⊥) → Failed p at b from rows (seeing less (lastOf p at))
     jump less f n m = record { never = never }
       where
-        never : (v : ℕ → ℕ) (l : List ℕ) → AgreesOn b (seeing less (lastOf p at) .slots) v → FromOn from l → Completes p (goals p - at) at v l → Open p used may l → (less .short ≡ true → Affords p used may left l) → ⊥
+        never : (v : ℕ → ℕ) (l : List ℕ) → AgreesOn b (seeing less (lastOf p at) .slots) v → FromOn from l → Completes p (goals p - at) at v l → Open p (rows .used) (rows .may) l → (less .short ≡ true → Affords p (rows .used) (rows .may) (rows .left) l) → ⊥
         never v l a t q i d =
             let s = step v l q in
             f .never (s .w) (s .ks)
@@ -68,12 +69,12 @@ module _ (p : Task) (at : ℕ) (b : List ℕ) (from used may left : ℕ) (more :
               | yes z ↦ absurd (m x j (c .noted x y z))
               | no z ↦ a x j z ∙ sym (c .keeps x z)
             ]))
-            (from-zero (s .ks)) (s .rest) (open-with p used may (rowOf p k) (s .ks) (open-tail p used may (s .k) (s .ks) (rw (s .is) at i)))
+            (from-zero (s .ks)) (s .rest) (open-with p (rows .used) (rows .may) (rowOf p k) (s .ks) (open-tail p (rows .used) (rows .may) (s .k) (s .ks) (rw (s .is) at i)))
             (λ y. absurd (true≢false (sym y ∙ n)))
 
     -- found below: the first places
-    module _ (why : Reasons) (i : k < targets p) (fk : from ≤ k) (rel : targetRelation p k ≡ sourceRelation p at) (e : Enters used may left (rowOf p k)) (ref : Refuted p at b from used may left why k) (l : List ℕ) (f : First (Afforded p (suc at) h 0 (with used (rowOf p k)) may (leftAfter used left (rowOf p k))) (ListBefore _<_) l) where
-      here : Afforded p at b from used may left (k ∷ l)
+    module _ (why : Reasons) (i : k < targets p) (fk : from ≤ k) (rel : targetRelation p k ≡ sourceRelation p at) (e : Enters (rows .used) (rows .may) (rows .left) (rowOf p k)) (ref : Refuted p at b from rows why k) (l : List ℕ) (f : First (Afforded p (suc at) h 0 (entering rows (rowOf p k))) (ListBefore _<_) l) where
+      here : Afforded p at b from rows (k ∷ l)
       here =
           let d = f .holds .completion in
           let u = before p at g h o (d .val) (d .extends) in
@@ -102,12 +103,12 @@ module _ (p : Task) (at : ℕ) (b : List ℕ) (from used may left : ℕ) (more :
       same ks (inl q) = inl (ap (λ r. k ∷ r) q)
       same ks (inr q) = inr (inr (refl, q))
 
-      least : (js : List ℕ) → Afforded p at b from used may left js → Later js
+      least : (js : List ℕ) → Afforded p at b from rows js → Later js
       unfolding Refuted Later
       least js a =
           let d = a .completion in
           let s = step (d .val) js (d .completes) in
-          let y : Affords p used may left (s .k ∷ s .ks) = rw (s .is) at (a .affords) in
+          let y : Affords p (rows .used) (rows .may) (rows .left) (s .k ∷ s .ks) = rw (s .is) at (a .affords) in
           rw (s .is) (elim (decLt k (s .k)) [
             | yes j ↦ inr (inl j)
             | no j ↦ elim (ℕ-discrete (s .k) k) [
@@ -115,41 +116,41 @@ module _ (p : Task) (at : ℕ) (b : List ℕ) (from used may left : ℕ) (more :
                 completion = record { val = s .w; extends = after (d .val) (s .w) (d .extends) (rw z at (s .agrees)) (s .linked); fromOn = from-zero (s .ks); completes = s .rest };
                 affords = rw z at (y .1);
               })))
-              | no z ↦ absurd (ref (s .k) (rw (s .is) at (d .fromOn)) (omega arith) (record { v = d .val; w = s .w; l = s .ks; agreesOn = λ x m. d .extends x; agrees = s .agrees; linked = s .linked; rest = s .rest; allowed = affords-open p used may left (s .k ∷ s .ks) y; affords = λ m. y }))
+              | no z ↦ absurd (ref (s .k) (rw (s .is) at (d .fromOn)) (omega arith) (record { v = d .val; w = s .w; l = s .ks; agreesOn = λ x m. d .extends x; agrees = s .agrees; linked = s .linked; rest = s .rest; allowed = affords-open p (rows .used) (rows .may) (rows .left) (s .k ∷ s .ks) y; affords = λ m. y }))
             ]
           ])
 
-      pub first-here : First (Afforded p at b from used may left) (ListBefore _<_) (k ∷ l)
+      pub first-here : First (Afforded p at b from rows) (ListBefore _<_) (k ∷ l)
       unfolding Later
       first-here = record { holds = here; least = least }
 
     -- what settles the search: the places found, or the jump
-    module _ (below : Placed) (a : Answer p (suc at) h 0 (with used (rowOf p k)) may (leftAfter used left (rowOf p k)) below) (why : Reasons) (i : k < targets p) (fk : from ≤ k) (rel : targetRelation p k ≡ sourceRelation p at) (e : Enters used may left (rowOf p k)) (ref : Refuted p at b from used may left why k) where
-      got : below .ok ≡ true → (l : List ℕ) × (set (below .ks) at k ≡ laid at l) × First (Afforded p at b from used may left) (ListBefore _<_) l
+    module _ (below : Placed) (a : Answer p (suc at) h 0 (entering rows (rowOf p k)) below) (why : Reasons) (i : k < targets p) (fk : from ≤ k) (rel : targetRelation p k ≡ sourceRelation p at) (e : Enters (rows .used) (rows .may) (rows .left) (rowOf p k)) (ref : Refuted p at b from rows why k) where
+      got : below .ok ≡ true → (l : List ℕ) × (set (below .ks) at k ≡ laid at l) × First (Afforded p at b from rows) (ListBefore _<_) l
       got y = let f = a .found y in (k ∷ f .0, ap (λ r. set r at k) (f .1) ∙ laid-put at k (f .0), first-here why i fk rel e ref (f .0) (f .2))
 
-      lost : below .ok ≡ false → (below .ok ≡ true) ⊎ ((below .why .short ≡ false) × ((x : ℕ) → Has (seeing (below .why) (lastOf p at) .slots) x → Has new x → ⊥)) → Failed p at b from used may left (seeing (below .why) (lastOf p at))
+      lost : below .ok ≡ false → (below .ok ≡ true) ⊎ ((below .why .short ≡ false) × ((x : ℕ) → Has (seeing (below .why) (lastOf p at) .slots) x → Has new x → ⊥)) → Failed p at b from rows (seeing (below .why) (lastOf p at))
       lost n (inl y) = absurd (true≢false (sym y ∙ n))
       lost n (inr y) = jump (below .why) (a .none n) (y .0) (y .1)
 
-      pub answer-settled : (r : Placed) → r ≡ carrying below at k (lastOf p at) → (s : Bool) → Settled (r .ok) (r .why) new s → s ≡ true → Answer p at b from used may left r
+      pub answer-settled : (r : Placed) → r ≡ carrying below at k (lastOf p at) → (s : Bool) → Settled (r .ok) (r .why) new s → s ≡ true → Answer p at b from rows r
       answer-settled r q s c t = rw q (record { found = got; none = λ n. lost n ((rw q at c) .exactly .0 t) })
 
 -- the answer below, in the words of this subgoal
-pub answer-below : (p : Task) (at : ℕ) (h : List ℕ) (used may left k : ℕ) (e : Entered) → Entering used may left (rowOf p k) e → (r : Placed) → Answer p (at + 1) h 0 (e .used) may (e .left) r → Answer p (suc at) h 0 (with used (rowOf p k)) may (leftAfter used left (rowOf p k)) r
-answer-below p at h used may left k e n r a = rw (add-one at, n .grown, n .rest) at a
+pub answer-below : (p : Task) (at : ℕ) (h : List ℕ) (rows : Rows) (k : ℕ) (e : Entered) → Entering rows (rowOf p k) e → (r : Placed) → Answer p (at + 1) h 0 (e .rows) r → Answer p (suc at) h 0 (entering rows (rowOf p k)) r
+answer-below p at h rows k e n r a = rw (add-one at, n .after) at a
 
 -- nothing is left to place
 only-none : (p : Task) (at : ℕ) (v : ℕ → ℕ) (js : List ℕ) → Completes p zero at v js → [] ≡ js
 only-none p at v js done = refl
 
-pub answer-end : (p : Task) (at : ℕ) (b : List ℕ) (from used may left : ℕ) → goals p ≤ at → at ≤ 96 → Answer p at b from used may left found
-answer-end p at b from used may left h k = record { found = λ e. ([], laid-none at k, first); none = λ e. absurd (true≢false e) }
+pub answer-end : (p : Task) (at : ℕ) (b : List ℕ) (from : ℕ) (rows : Rows) → goals p ≤ at → at ≤ 96 → Answer p at b from rows found
+answer-end p at b from rows h k = record { found = λ e. ([], laid-none at k, first); none = λ e. absurd (true≢false e) }
   where
     over : goals p - at ≡ 0
     over = omega arith
 
-    first : First (Afforded p at b from used may left) (ListBefore _<_) []
+    first : First (Afforded p at b from rows) (ListBefore _<_) []
     first =
         record {
           holds = record { completion = record { val = λ x. getD b x 0; extends = λ x f. refl; fromOn = tt; completes = rw over done }; affords = tt };

@@ -10,8 +10,9 @@ use borrow.Author.Tests.{eq-eqb, ne-eqb, not-true}
 use Rattle.bits.specs.Sets.{Has, has, with, below32, Meets}
 use Rattle.bits.proofs.Laws.{has-true, true-has, low-has}
 use Rattle.placing.specs.Taking.{Enters, leftAfter}
-use Rattle.placing.specs.Steps.{joining, seeing, Settled, Entering}
+use Rattle.placing.specs.Steps.{joining, seeing, Settled, rowsOf, entryOf, Entering}
 use Rattle.placing.specs.declared.Reasons.{Reasons}
+use Rattle.placing.specs.declared.Rows.{Rows}
 use Rattle.placing.specs.declared.Entered.{Entered}
 
 pub seeing-same : (why : Reasons) (last : ℕ) → last ≡ 0 → why ≡ seeing why last
@@ -45,33 +46,34 @@ pub unsettled : (ok : Bool) (why : Reasons) (new : ℕ) (s : Bool) → Settled o
 unsettled true why new s c e = absurd (true≢false (sym (c .exactly .1 (inl refl)) ∙ e))
 unsettled false why new s c e = refl
 
-module _ (used may left row grown : ℕ) (g : grown ≡ with used row) where
-  pub enter-free : true ≡ has used row → Entering used may left row record { allowed = true; afforded = true; used = grown; left = left }
-  enter-free e =
-      record {
-        allowed = (λ z. inl (has-true used row (sym e)), λ z. refl);
-        afforded = λ z. (λ y. inl (has-true used row (sym e)), λ y. refl);
-        grown = g;
-        rest = rw (sym e);
-      }
+-- the parts of an entry by their values
+pub entry-as : (a b afforded : Bool) (u v may left : ℕ) (rows : Rows) (e : Entered) → e ≡ entryOf a afforded rows → rows ≡ rowsOf u may left → u ≡ v → a ≡ b → e ≡ entryOf b afforded (rowsOf v may left)
+entry-as a b afforded u v may left rows e q r s t = rw (q, r, s, t)
 
-  module _ (out : has used row ≡ false) (o : Bool) (m : o ≡ has may row) where
-    unused : Has used row → ⊥
-    unused h = true≢false (sym (true-has used row h) ∙ out)
+module _ (rows : Rows) (row : ℕ) (e : Entered) where
+  pub enter-free : has (rows .used) row ≡ true → e ≡ entryOf true true (rowsOf (with (rows .used) row) (rows .may) (rows .left)) → Entering rows row e
+  enter-free h q = rw q (record { allowed = (λ z. inl u, λ z. refl); afforded = λ z. (λ y. inl u, λ y. refl); after = rw h })
+    where
+      u : Has (rows .used) row
+      u = has-true (rows .used) row h
 
-    allowed : (o ≡ true) ↔ (Has used row ⊎ Has may row)
-    allowed = (λ e. inr (has-true may row (sym m ∙ e)), back)
+  module _ (out : has (rows .used) row ≡ false) where
+    unused : Has (rows .used) row → ⊥
+    unused h = true≢false (sym (true-has (rows .used) row h) ∙ out)
+
+    may : (has (rows .may) row ≡ true) ↔ (Has (rows .used) row ⊎ Has (rows .may) row)
+    may = (λ h. inr (has-true (rows .may) row h), back)
       where
-        back : Has used row ⊎ Has may row → o ≡ true
+        back : Has (rows .used) row ⊎ Has (rows .may) row → has (rows .may) row ≡ true
         back (inl h) = absurd (unused h)
-        back (inr h) = m ∙ true-has may row h
+        back (inr h) = true-has (rows .may) row h
 
-    pub enter-none : left ≡ 0 → Entering used may left row record { allowed = o; afforded = false; used = grown; left = left }
-    enter-none z = record { allowed = allowed; afforded = λ e. (λ y. absurd (false≢true y), λ y. absurd (neither y)); grown = g; rest = rw (out, z) }
+    pub enter-none : rows .left ≡ 0 → e ≡ entryOf (has (rows .may) row) false (rowsOf (with (rows .used) row) (rows .may) 0) → Entering rows row e
+    enter-none z q = rw q (record { allowed = may; afforded = λ e. (λ y. absurd (false≢true y), λ y. absurd (neither y)); after = rw (out, z) })
       where
-        neither : Enters used may left row → ⊥
+        neither : Enters (rows .used) (rows .may) (rows .left) row → ⊥
         neither (inl h) = unused h
         neither (inr h) = omega (arith, h .1)
 
-    pub enter-paid : (left ≡ 0 → ⊥) → Entering used may left row record { allowed = o; afforded = true; used = grown; left = left - 1 }
-    enter-paid f = record { allowed = allowed; afforded = λ e. (λ y. inr (has-true may row (sym m ∙ e), omega arith), λ y. refl); grown = g; rest = rw out }
+    pub enter-paid : (rows .left ≡ 0 → ⊥) → e ≡ entryOf (has (rows .may) row) true (rowsOf (with (rows .used) row) (rows .may) (rows .left - 1)) → Entering rows row e
+    enter-paid f q = rw q (record { allowed = may; afforded = λ h. (λ y. inr (has-true (rows .may) row h, omega arith), λ y. refl); after = rw out })

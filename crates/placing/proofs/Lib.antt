@@ -4,10 +4,11 @@ pub mod Judging
 pub mod Guess
 pub mod Open
 pub mod Without
-pub mod Rows
+pub mod Taken
 pub mod Crossing
 pub mod Refuted
 pub mod Laid
 pub mod Answered
 pub mod Chain
 pub mod Verdicts
+pub mod Unique

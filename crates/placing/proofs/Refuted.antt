@@ -7,13 +7,14 @@ use Prim.Native.Nat.{ℕ, zero, suc, _+_, _-_, _<_, _≤_}
 use native.Mathlib.Omega.{arith}
 use native.Mathlib.Decide.{ℕ-discrete, decLt}
 use lib.ListN.{length, getD, List·getD-eq-default}
-use Rattle.bits.specs.Sets.{Has, with}
+use Rattle.bits.specs.Sets.{Has}
 use Rattle.bits.proofs.Laws.{or-left, or-right}
 use Rattle.placing.specs.Task.{Task, goals, targetRelation, sourceRelation, sourceTerm, targetTerm, widthOf, lastOf, rowOf, Agrees, Linked, Completes}
-use Rattle.placing.specs.Taking.{Enters, leftAfter, Affords, Open}
+use Rattle.placing.specs.Taking.{Affords, Open}
 use Rattle.placing.specs.Answer.{AgreesOn, FromOn, Failed}
-use Rattle.placing.specs.Steps.{stood, blaming, shorting, joining, seeing, Opened, Entering}
+use Rattle.placing.specs.Steps.{stood, blaming, shorting, joining, seeing, entering, Opened, Entering}
 use Rattle.placing.specs.declared.Reasons.{Reasons}
+use Rattle.placing.specs.declared.Rows.{Rows}
 use Rattle.placing.specs.declared.Entered.{Entered}
 use Rattle.placing.proofs.Slots.{stood-value, noting-new, noting-old}
 use Rattle.placing.proofs.Guess.{Guess, TermsAgree}
@@ -21,7 +22,7 @@ use Rattle.placing.proofs.Open.{open-with, open-tail}
 use Rattle.placing.proofs.Crossing.{carry}
 
 -- a way on from the source subgoal at, over the target k, that the reasons do not rule out
-pub record Way (p : Task) (at : ℕ) (b : List ℕ) (used may left : ℕ) (why : Reasons) (k : ℕ) : Type 0 where
+pub record Way (p : Task) (at : ℕ) (b : List ℕ) (rows : Rows) (why : Reasons) (k : ℕ) : Type 0 where
   pub v : ℕ → ℕ
   pub w : ℕ → ℕ
   pub l : List ℕ
@@ -29,12 +30,12 @@ pub record Way (p : Task) (at : ℕ) (b : List ℕ) (used may left : ℕ) (why :
   pub agrees : Agrees p v at k
   pub linked : Linked p at v w
   pub rest : Completes p (goals p - suc at) (suc at) w l
-  pub allowed : Open p used may (k ∷ l)
-  pub affords : why .short ≡ true → Affords p used may left (k ∷ l)
+  pub allowed : Open p (rows .used) (rows .may) (k ∷ l)
+  pub affords : why .short ≡ true → Affords p (rows .used) (rows .may) (rows .left) (k ∷ l)
 
 -- there is none over a target from `from` up to next
-unfoldable pub Refuted : Task → ℕ → List ℕ → ℕ → ℕ → ℕ → ℕ → Reasons → ℕ → Type 0
-Refuted p at b from used may left why next = (k : ℕ) → from ≤ k → k < next → Way p at b used may left why k → ⊥
+unfoldable pub Refuted : Task → ℕ → List ℕ → ℕ → Rows → Reasons → ℕ → Type 0
+Refuted p at b from rows why next = (k : ℕ) → from ≤ k → k < next → Way p at b rows why k → ⊥
 
 -- the one has the other's reasons, and perhaps more
 record Grows (why more : Reasons) : Type 0 where
@@ -45,29 +46,29 @@ pub from-zero : (l : List ℕ) → FromOn 0 l
 from-zero [] = tt
 from-zero (k ∷ l) = omega arith
 
-module _ (p : Task) (at : ℕ) (b : List ℕ) (from used may left : ℕ) where
-  pub refuted-start : (why : Reasons) → Refuted p at b from used may left why from
+module _ (p : Task) (at : ℕ) (b : List ℕ) (from : ℕ) (rows : Rows) where
+  pub refuted-start : (why : Reasons) → Refuted p at b from rows why from
   unfolding Refuted
   refuted-start why k h i = absurd (omega arith)
 
   -- one target more, and perhaps more reasons
-  refuted-more : (why more : Reasons) (k : ℕ) → Grows why more → (Way p at b used may left more k → ⊥) → Refuted p at b from used may left why k → Refuted p at b from used may left more (k + 1)
+  refuted-more : (why more : Reasons) (k : ℕ) → Grows why more → (Way p at b rows more k → ⊥) → Refuted p at b from rows why k → Refuted p at b from rows more (k + 1)
   unfolding Refuted
   refuted-more why more k i f r j h l c = elim (decLt j k) [
     | yes o ↦ r j h o (record { v = c .v; w = c .w; l = c .l; agreesOn = λ x m. c .agreesOn x (i .slots x m); agrees = c .agrees; linked = c .linked; rest = c .rest; allowed = c .allowed; affords = λ s. c .affords (i .short s) })
     | no o ↦ let e : j ≡ k = omega arith in f (rw e at c)
   ]
 
-  pub refuted-relation : (why : Reasons) (k : ℕ) → (targetRelation p k ≡ sourceRelation p at → ⊥) → Refuted p at b from used may left why k → Refuted p at b from used may left why (k + 1)
+  pub refuted-relation : (why : Reasons) (k : ℕ) → (targetRelation p k ≡ sourceRelation p at → ⊥) → Refuted p at b from rows why k → Refuted p at b from rows why (k + 1)
   refuted-relation why k f = refuted-more why why k (record { slots = λ x h. h; short = λ s. s }) (λ c. f (c .agrees .relation))
 
-  module _ (k : ℕ) (e : Entered) (n : Entering used may left (rowOf p k) e) where
+  module _ (k : ℕ) (e : Entered) (n : Entering rows (rowOf p k) e) where
     -- the row is neither in use nor to be taken
-    pub refuted-barred : (why : Reasons) → e .allowed ≡ false → Refuted p at b from used may left why k → Refuted p at b from used may left why (k + 1)
+    pub refuted-barred : (why : Reasons) → e .allowed ≡ false → Refuted p at b from rows why k → Refuted p at b from rows why (k + 1)
     refuted-barred why f = refuted-more why why k (record { slots = λ x h. h; short = λ s. s }) (λ c. true≢false (sym (n .allowed .1 (c .allowed k (List·Memᴰ·head refl))) ∙ f))
 
     -- no more rows are left
-    pub refuted-short : (why : Reasons) → e .allowed ≡ true → e .afforded ≡ false → Refuted p at b from used may left why k → Refuted p at b from used may left (shorting why) (k + 1)
+    pub refuted-short : (why : Reasons) → e .allowed ≡ true → e .afforded ≡ false → Refuted p at b from rows why k → Refuted p at b from rows (shorting why) (k + 1)
     refuted-short why a f = refuted-more why (shorting why) k (record { slots = λ x h. h; short = λ s. refl }) (λ c. true≢false (sym (n .afforded a .1 (c .affords refl .0)) ∙ f))
 
   -- what a guess bound is forced, or known by the reasons
@@ -82,17 +83,17 @@ module _ (p : Task) (at : ℕ) (b : List ℕ) (from used may left : ℕ) where
     bound-slot x d = elim (decLt x 64) [ yes i ↦ i | no i ↦ absurd (d (List·getD-eq-default g 0 (omega (arith, c .long)))) ]
 
     -- the first unlike term
-    pub refuted-unlike : (why : Reasons) → a < widthOf p at → (stood g (sourceTerm p at a) ≡ 0 → ⊥) → (stood g (sourceTerm p at a) ≡ targetTerm p k a → ⊥) → Refuted p at b from used may left why k → Refuted p at b from used may left (blaming why (sourceTerm p at a)) (k + 1)
+    pub refuted-unlike : (why : Reasons) → a < widthOf p at → (stood g (sourceTerm p at a) ≡ 0 → ⊥) → (stood g (sourceTerm p at a) ≡ targetTerm p k a → ⊥) → Refuted p at b from rows why k → Refuted p at b from rows (blaming why (sourceTerm p at a)) (k + 1)
     refuted-unlike why h n f = refuted-more why (blaming why (sourceTerm p at a)) k (record { slots = noting-old (why .slots) (sourceTerm p at a); short = λ s. s })
         (λ y. f (sym (stood-value g (y .v) (sourceTerm p at a) (λ d. known (blaming why (sourceTerm p at a) .slots) (y .v) (sourceTerm p at a) (λ j o. y .agrees .terms j (omega arith)) (y .agreesOn) (noting-new (why .slots) (sourceTerm p at a) (bound-slot (sourceTerm p at a) d)) d) n) ∙ y .agrees .terms a h))
 
   -- a failure below
-  module _ (k : ℕ) (g h : List ℕ) (new : ℕ) (c : Guess p b at k (widthOf p at) g new) (o : Opened (lastOf p at) g h) (less : Reasons) (f : Failed p (suc at) h 0 (with used (rowOf p k)) may (leftAfter used left (rowOf p k)) less) where
-    pub refuted-below : (why : Reasons) → Refuted p at b from used may left why k → Refuted p at b from used may left (joining why (seeing less (lastOf p at))) (k + 1)
+  module _ (k : ℕ) (g h : List ℕ) (new : ℕ) (c : Guess p b at k (widthOf p at) g new) (o : Opened (lastOf p at) g h) (less : Reasons) (f : Failed p (suc at) h 0 (entering rows (rowOf p k)) less) where
+    pub refuted-below : (why : Reasons) → Refuted p at b from rows why k → Refuted p at b from rows (joining why (seeing less (lastOf p at))) (k + 1)
     refuted-below why = refuted-more why (joining why (seeing less (lastOf p at))) k
         (record { slots = or-left (why .slots) (seeing less (lastOf p at) .slots); short = λ s. ap (λ b. b || less .short) s })
         (λ y. f .never (y .w) (y .l)
         (carry p at g h o less (y .v) (y .w) (y .linked) (λ x i d. known k (widthOf p at) g new c (joining why (seeing less (lastOf p at)) .slots) (y .v) x (y .agrees .terms) (y .agreesOn) (or-right (why .slots) (seeing less (lastOf p at) .slots) x i) d))
         (from-zero (y .l)) (y .rest)
-        (open-with p used may (rowOf p k) (y .l) (open-tail p used may k (y .l) (y .allowed)))
+        (open-with p (rows .used) (rows .may) (rowOf p k) (y .l) (open-tail p (rows .used) (rows .may) k (y .l) (y .allowed)))
         (λ s. y .affords (ap (λ b. why .short || b) s ∙ or-true (why .short)) .1))

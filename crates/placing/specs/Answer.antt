@@ -8,10 +8,11 @@ use Rattle.bits.specs.Sets.{Has}
 use Rattle.words.specs.Order.{ListBefore, First}
 use Rattle.placing.specs.Task.{Task, goals, Completes, Extends}
 use Rattle.placing.specs.Taking.{Affords, Open}
-use Rattle.placing.specs.Mapped.{laid}
+use Rattle.placing.specs.Mapped.{laid, FirstOf}
 use Rattle.placing.specs.declared.Reasons.{Reasons}
 use Rattle.placing.specs.declared.Placed.{Placed}
 use Rattle.placing.specs.declared.Places.{Places}
+use Rattle.placing.specs.declared.Rows.{Rows}
 
 -- the first of the places is `from` or a later one
 abbrev pub FromOn : ℕ → List ℕ → Type 0
@@ -26,23 +27,22 @@ pub record Completion (p : Task) (at : ℕ) (b : List ℕ) (from : ℕ) (l : Lis
   pub completes : Completes p (goals p - at) at val l
 
 -- .. and the rows allow it
-pub record Afforded (p : Task) (at : ℕ) (b : List ℕ) (from used may left : ℕ) (l : List ℕ) : Type 0 where
+pub record Afforded (p : Task) (at : ℕ) (b : List ℕ) (from : ℕ) (rows : Rows) (l : List ℕ) : Type 0 where
   pub completion : Completion p at b from l
-  pub affords : Affords p used may left l
+  pub affords : Affords p (rows .used) (rows .may) (rows .left) l
 
 -- v gives the bound slots among those of the set their words
 abbrev pub AgreesOn : List ℕ → ℕ → (ℕ → ℕ) → Type 0
 AgreesOn b set v = (x : ℕ) → Has set x → (getD b x 0 ≡ 0 → ⊥) → v x ≡ getD b x 0
 
 -- A failure tells its reasons, a set of slots: no v that agrees with b on them has a completion that the rows allow. If it was not short of rows, not even with more left.
-pub record Failed (p : Task) (at : ℕ) (b : List ℕ) (from used may left : ℕ) (why : Reasons) : Type 0 where
-  pub never : (v : ℕ → ℕ) (l : List ℕ) → AgreesOn b (why .slots) v → FromOn from l → Completes p (goals p - at) at v l → Open p used may l → (why .short ≡ true → Affords p used may left l) → ⊥
+pub record Failed (p : Task) (at : ℕ) (b : List ℕ) (from : ℕ) (rows : Rows) (why : Reasons) : Type 0 where
+  pub never : (v : ℕ → ℕ) (l : List ℕ) → AgreesOn b (why .slots) v → FromOn from l → Completes p (goals p - at) at v l → Open p (rows .used) (rows .may) l → (why .short ≡ true → Affords p (rows .used) (rows .may) (rows .left) l) → ⊥
 
-pub record Answer (p : Task) (at : ℕ) (b : List ℕ) (from used may left : ℕ) (r : Placed) : Type 0 where
-  pub found : r .ok ≡ true → (l : List ℕ) × (r .ks ≡ laid at l) × First (Afforded p at b from used may left) (ListBefore _<_) l
-  pub none : r .ok ≡ false → Failed p at b from used may left (r .why)
+pub record Answer (p : Task) (at : ℕ) (b : List ℕ) (from : ℕ) (rows : Rows) (r : Placed) : Type 0 where
+  pub found : r .ok ≡ true → (l : List ℕ) × (r .ks ≡ laid at l) × First (Afforded p at b from rows) (ListBefore _<_) l
+  pub none : r .ok ≡ false → Failed p at b from rows (r .why)
 
 -- Without reasons, and with every row in use: the first completion's places, or that there is none.
-pub record PlacesFrom (p : Task) (at : ℕ) (b : List ℕ) (from : ℕ) (r : Places) : Type 0 where
-  pub found : r .ok ≡ true → (l : List ℕ) × (r .ks ≡ laid at l) × First (Completion p at b from) (ListBefore _<_) l
-  pub none : r .ok ≡ false → (r .ks ≡ laid 0 []) × ((l : List ℕ) → Completion p at b from l → ⊥)
+abbrev pub PlacesFrom : Task → ℕ → List ℕ → ℕ → Places → Type 0
+PlacesFrom p at b from = FirstOf (Completion p at b from) at

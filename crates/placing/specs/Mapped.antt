@@ -30,7 +30,6 @@ pub record Mapped (p : Task) (b l : List ℕ) : Type 0 where
   pub long : length l ≡ goals p
   pub lands : (i : ℕ) → i < goals p → Lands p val i (getD l i 0)
 
--- "the first, byte by byte, that gives a containment mapping"
 abbrev pub FirstMapped : Task → List ℕ → List ℕ → Type 0
 FirstMapped p b = First (Mapped p b) (ListBefore _<_)
 
@@ -38,10 +37,14 @@ FirstMapped p b = First (Mapped p b) (ListBefore _<_)
 abbrev pub laid : ℕ → List ℕ → List ℕ
 laid at l = replicate at 0 ++ (l ++ replicate (96 - at - length l) 0)
 
--- The first mapping's places; or that there is none, and then the places say nothing.
-pub record FirstPlaces (p : Task) (b : List ℕ) (r : Places) : Type 0 where
-  pub found : r .ok ≡ true → (l : List ℕ) × (r .ks ≡ laid 0 l) × FirstMapped p b l
-  pub none : r .ok ≡ false → (r .ks ≡ laid 0 []) × ((l : List ℕ) → Mapped p b l → ⊥)
+-- The first of the lists that are ok, as places from `at` on; or that there is none, and then the places say nothing.
+pub record FirstOf (Ok : List ℕ → Type 0) (at : ℕ) (r : Places) : Type 0 where
+  pub found : r .ok ≡ true → (l : List ℕ) × (r .ks ≡ laid at l) × First Ok (ListBefore _<_) l
+  pub none : r .ok ≡ false → (r .ks ≡ laid 0 []) × ((l : List ℕ) → Ok l → ⊥)
+
+-- "the first, byte by byte, that gives a containment mapping"
+abbrev pub FirstPlaces : Task → List ℕ → Places → Type 0
+FirstPlaces p b = FirstOf (Mapped p b) 0
 
 -- Some mapping whose targets lie in the rows in use and at most `left` others, each of which may be taken.
 pub record Feasible (p : Task) (b : List ℕ) (used may left : ℕ) : Type 0 where

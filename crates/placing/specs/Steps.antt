@@ -11,6 +11,7 @@ use Rattle.bits.specs.Sets.{Has, with, below32}
 use Rattle.placing.specs.Taking.{Enters, leftAfter}
 use Rattle.placing.specs.declared.Reasons.{Reasons}
 use Rattle.placing.specs.declared.Placed.{Placed}
+use Rattle.placing.specs.declared.Rows.{Rows}
 use Rattle.placing.specs.declared.Entered.{Entered}
 
 -- what a source term stands for under the bindings g: 0 for a slot that is not bound
@@ -28,11 +29,20 @@ pub record Opened (last : ℕ) (g h : List ℕ) : Type 0 where
   pub low : (x : ℕ) → x < 32 → getD h x 0 ≡ getD g x 0
   pub high : (last ≡ 0 → ⊥) → (x : ℕ) → 32 ≤ x → getD h x 0 ≡ 0
 
-pub record Entering (used may left row : ℕ) (e : Entered) : Type 0 where
-  pub allowed : (e .allowed ≡ true) ↔ (Has used row ⊎ Has may row)
-  pub afforded : e .allowed ≡ true → (e .afforded ≡ true) ↔ Enters used may left row
-  pub grown : e .used ≡ with used row
-  pub rest : e .left ≡ leftAfter used left row
+abbrev pub rowsOf : ℕ → ℕ → ℕ → Rows
+rowsOf used may left = record { used = used; may = may; left = left }
+
+abbrev pub entryOf : Bool → Bool → Rows → Entered
+entryOf allowed afforded rows = record { allowed = allowed; afforded = afforded; rows = rows }
+
+-- the rows once a row is entered
+abbrev pub entering : Rows → ℕ → Rows
+entering rows row = rowsOf (with (rows .used) row) (rows .may) (leftAfter (rows .used) (rows .left) row)
+
+pub record Entering (rows : Rows) (row : ℕ) (e : Entered) : Type 0 where
+  pub allowed : (e .allowed ≡ true) ↔ (Has (rows .used) row ⊎ Has (rows .may) row)
+  pub afforded : e .allowed ≡ true → (e .afforded ≡ true) ↔ Enters (rows .used) (rows .may) (rows .left) row
+  pub after : e .rows ≡ entering rows row
 
 abbrev pub blaming : Reasons → ℕ → Reasons
 blaming why x = record { slots = noting (why .slots) x; short = why .short }
@@ -53,11 +63,11 @@ carrying below at k last = record { ok = below .ok; why = seeing (below .why) la
 pub record Settled (ok : Bool) (why : Reasons) (new : ℕ) (answer : Bool) : Type 0 where
   pub exactly : (answer ≡ true) ↔ ((ok ≡ true) ⊎ ((why .short ≡ false) × ((x : ℕ) → Has (why .slots) x → Has new x → ⊥)))
 
-abbrev pub noReason : Reasons
-noReason = record { slots = 0; short = false }
+abbrev pub noReasons : Reasons
+noReasons = record { slots = 0; short = false }
 
 abbrev pub found : Placed
-found = record { ok = true; why = noReason; ks = replicate 96 0 }
+found = record { ok = true; why = noReasons; ks = replicate 96 0 }
 
 abbrev pub failed : Reasons → Placed
 failed why = record { ok = false; why = why; ks = replicate 96 0 }

@@ -7,7 +7,7 @@ ghost use lib.ListN.{length};
 ghost use Rattle.placing.specs.Task.{posed, Sized};
 ghost use Rattle.placing.specs.Mapped.{FirstPlaces, Enough};
 ghost use Rattle.placing.specs.Answer.{Answer, PlacesFrom};
-ghost use Rattle.placing.specs.Steps.{stood, noting, blaming, shorting, joining, seeing, carrying, Opened, Entering, Settled, found, failed};
+ghost use Rattle.placing.specs.Steps.{stood, noting, blaming, shorting, joining, seeing, carrying, rowsOf, entryOf, Opened, Entering, Settled, noReasons, found, failed};
 
 // The places of the source subgoals, or that there are none.
 pub struct Places {
@@ -27,12 +27,18 @@ struct Placed {
     ks: [u16; 96],
 }
 
-// Of a row: whether it is in use or may be taken, whether the rows left suffice, and what is in use and left once it is entered.
+// Sets of rows, those in use and those that may be taken; and how many more may be.
+struct Rows {
+    used: u64,
+    may: u64,
+    left: usize,
+}
+
+// Of a row: whether it is in use or may be taken, whether the rows left suffice, and the rows once it is entered.
 struct Entered {
     allowed: bool,
     afforded: bool,
-    used: u64,
-    left: usize,
+    rows: Rows,
 }
 
 // Two terms are compared by tag, then by number.
@@ -45,6 +51,7 @@ fn alike(x: u64, y: u64) -> bool
     x % 4294967296 == y % 4294967296
 }
 
+// How many of a subgoal's terms count.
 fn width(x: u8) -> usize
     requires { ⌜ x ≤ 8 ⌝ }
     ensures { λ r. ⌜ (r ≡ x) × (r ≤ 8) ⌝ }
@@ -89,34 +96,44 @@ fn opened(g: [u64; 64], last: u8) -> [u64; 64]
     h
 }
 
-// A row in use is free; another costs one of those left.
-fn enters(used: u64, may: u64, left: usize, row: u8) -> Entered
-    requires { ⌜ row < 64 ⌝ }
-    ensures { λ e. ⌜ Entering used may left row e ⌝ }
+fn rows_of(used: u64, may: u64, left: usize) -> Rows
+    ensures { λ r. ⌜ r ≡ rowsOf used may left ⌝ }
 {
-    let grown = bits::add(used, row as u32);
-    if bits::holds(used, row as u32) {
-        return Entered {
-            allowed: true,
-            afforded: true,
-            used: grown,
-            left,
-        };
-    }
-    let allowed = bits::holds(may, row as u32);
-    if left == 0 {
-        return Entered {
-            allowed,
-            afforded: false,
-            used: grown,
-            left,
-        };
-    }
+    Rows { used, may, left }
+}
+
+fn entry(allowed: bool, afforded: bool, rows: Rows) -> Entered
+    ensures { λ e. ⌜ e ≡ entryOf allowed afforded rows ⌝ }
+{
     Entered {
         allowed,
-        afforded: true,
-        used: grown,
-        left: left - 1,
+        afforded,
+        rows,
+    }
+}
+
+// A row in use is free; another costs one of those left, and is then in use.
+fn enters(rows: Rows, row: u8) -> Entered
+    requires { ⌜ row < 64 ⌝ }
+    ensures { λ e. ⌜ Entering rows row e ⌝ }
+{
+    let used = bits::add(rows.used, row as u32);
+    if bits::holds(rows.used, row as u32) {
+        return entry(true, true, rows_of(used, rows.may, rows.left));
+    }
+    let allowed = bits::holds(rows.may, row as u32);
+    if rows.left == 0 {
+        return entry(allowed, false, rows_of(used, rows.may, 0));
+    }
+    entry(allowed, true, rows_of(used, rows.may, rows.left - 1))
+}
+
+fn no_reasons() -> Reasons
+    ensures { λ r. ⌜ r ≡ noReasons ⌝ }
+{
+    Reasons {
+        slots: 0,
+        short: false,
     }
 }
 
@@ -130,6 +147,7 @@ fn blamed(why: Reasons, x: u64) -> Reasons
     }
 }
 
+// A row was refused since none are left: with more, the target might do.
 fn shorted(why: Reasons) -> Reasons
     ensures { λ r. ⌜ r ≡ shorting why ⌝ }
 {
@@ -139,6 +157,7 @@ fn shorted(why: Reasons) -> Reasons
     }
 }
 
+// The reasons of both.
 fn joined(why: Reasons, more: Reasons) -> Reasons
     ensures { λ r. ⌜ r ≡ joining why more ⌝ }
 {
@@ -193,19 +212,18 @@ fn settled(ok: bool, why: Reasons, new: u64) -> bool
     !bits::meets(why.slots, new)
 }
 
+// Nothing is left to place.
 fn whole() -> Placed
     ensures { λ r. ⌜ r ≡ found ⌝ }
 {
     Placed {
         ok: true,
-        why: Reasons {
-            slots: 0,
-            short: false,
-        },
+        why: no_reasons(),
         ks: [0u16; 96],
     }
 }
 
+// No target is left to try.
 fn none(why: Reasons) -> Placed
     ensures { λ r. ⌜ r ≡ failed why ⌝ }
 {
@@ -217,6 +235,7 @@ fn none(why: Reasons) -> Placed
 }
 
 // The first places, in order, of the source subgoals from `at` on, that of `at` being `from` or a later one.
+// The loops over targets and terms stand in one function, so that the exit at the first unlike term is seen.
 fn place(
     source: &[u64],
     widths: &[u8],
@@ -226,23 +245,18 @@ fn place(
     at: usize,
     b: [u64; 64],
     from: usize,
-    used: u64,
-    may: u64,
-    left: usize,
+    rows: Rows,
 ) -> Placed
     requires { ⌜ Sized (posed (now source) (now widths) (now lasts) (now target) (now own)) ⌝ }
     requires { ⌜ at ≤ length (now widths) ⌝ }
-    ensures { λ r. ⌜ Answer (posed (now (source .entry)) (now (widths .entry)) (now (lasts .entry)) (now (target .entry)) (now (own .entry))) at b from used may left r ⌝ }
+    ensures { λ r. ⌜ Answer (posed (now (source .entry)) (now (widths .entry)) (now (lasts .entry)) (now (target .entry)) (now (own .entry))) at b from rows r ⌝ }
 {
     if widths.len() <= at {
         return whole();
     }
     let wide = width(widths[at]);
     let last = lasts[at];
-    let mut why = Reasons {
-        slots: 0,
-        short: false,
-    };
+    let mut why = no_reasons();
     let mut next = from;
     'candidates: while next < own.len() {
         let k = next;
@@ -250,7 +264,7 @@ fn place(
         if target[9 * k] != source[9 * at] {
             continue 'candidates;
         }
-        let e = enters(used, may, left, own[k]);
+        let e = enters(rows, own[k]);
         if !e.allowed {
             continue 'candidates;
         }
@@ -274,19 +288,8 @@ fn place(
             why = shorted(why);
             continue 'candidates;
         }
-        let below = place(
-            source,
-            widths,
-            lasts,
-            target,
-            own,
-            at + 1,
-            opened(g, last),
-            0,
-            e.used,
-            may,
-            e.left,
-        );
+        let h = opened(g, last);
+        let below = place(source, widths, lasts, target, own, at + 1, h, 0, e.rows);
         let r = carried(below, at, k, last);
         if settled(r.ok, r.why, new) {
             return r;
@@ -311,19 +314,8 @@ pub fn places_from(
     requires { ⌜ at ≤ length (now widths) ⌝ }
     ensures { λ r. ⌜ PlacesFrom (posed (now (source .entry)) (now (widths .entry)) (now (lasts .entry)) (now (target .entry)) (now (own .entry))) at b from r ⌝ }
 {
-    let r = place(
-        source,
-        widths,
-        lasts,
-        target,
-        own,
-        at,
-        b,
-        from,
-        18446744073709551615,
-        0,
-        0,
-    );
+    let rows = rows_of(18446744073709551615, 0, 0);
+    let r = place(source, widths, lasts, target, own, at, b, from, rows);
     if r.ok {
         let ks = r.ks;
         return Places { ok: true, ks };
@@ -364,6 +356,7 @@ pub fn enough(
     requires { ⌜ Sized (posed (now source) (now widths) (now lasts) (now target) (now own)) ⌝ }
     ensures { λ r. ⌜ Enough (posed (now (source .entry)) (now (widths .entry)) (now (lasts .entry)) (now (target .entry)) (now (own .entry))) b used may left r ⌝ }
 {
-    let r = place(source, widths, lasts, target, own, 0, b, 0, used, may, left);
+    let rows = rows_of(used, may, left);
+    let r = place(source, widths, lasts, target, own, 0, b, 0, rows);
     r.ok
 }

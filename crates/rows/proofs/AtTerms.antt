@@ -67,7 +67,7 @@ module _ (body : List (Subgoal (Term ℕ))) where
   front-place (t ∷ ts) zero g e = inl (t, refl, Option·some-injective (alone t) g e)
   front-place (t ∷ ts) (suc k) g e = front-place ts k g e
 
-  place-front : (ts : List (Term ℕ)) (k : ℕ) (t : Term ℕ) → place ts (suc k) ≡ some t → place (map alone ts ++ body) (suc k) ≡ some (alone t)
+  pub place-front : (ts : List (Term ℕ)) (k : ℕ) (t : Term ℕ) → place ts (suc k) ≡ some t → place (map alone ts ++ body) (suc k) ≡ some (alone t)
   place-front [] k t e = absurd (Option·none-ne-some t e)
   place-front (u ∷ ts) zero t e = ap some (ap alone (Option·some-injective u t e))
   place-front (u ∷ ts) (suc k) t e = place-front ts k t e

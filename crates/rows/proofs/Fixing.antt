@@ -1,6 +1,5 @@
 -- The bindings that fix the first places: which values extend them.
 use mathlib.Core.Path.{_≡_, refl, sym, ap, _∙_}
-use mathlib.Core.Logic.{⊎-elim}
 use mathlib.Core.Bool.{Bool, true, false, cond}
 use mathlib.Core.List.{List}
 use Prim.Native.Nat.{ℕ, zero, suc, _+_, _*_, _<_, _≤_}
@@ -9,17 +8,10 @@ use native.Mathlib.Decide.{ℕ-discrete, decLt}
 use lib.ListN.{length, getD, set, replicate, length-set, length-replicate, getD-replicate, List·getD-eq-default}
 use lib.Seq.{getD-set-same, getD-set-other}
 use lib.Dec.{ltb}
-use borrow.Author.Tests.{lt-ltb, le-ltb, ltb-true, ltb-false}
-use Rattle.placing.specs.Task.{Task, widthOf, sourceTerm, targetTerm, valueOf, Agrees, Extends}
+use borrow.Author.Tests.{ltb-true, ltb-false}
+use Rattle.placing.specs.Task.{Task, widthOf, valueOf, Agrees, Extends}
+use Rattle.placing.proofs.Slots.{value-slot, value-word}
 use Rattle.rows.specs.Steps.{binding, fixing}
-
-value-slot : (v : ℕ → ℕ) (x : ℕ) → x < 64 → valueOf v x ≡ v x
-unfolding valueOf
-value-slot v x h = rw (lt-ltb x 64 h)
-
-value-word : (v : ℕ → ℕ) (x : ℕ) → 64 ≤ x → valueOf v x ≡ x
-unfolding valueOf
-value-word v x h = rw (le-ltb x 64 h)
 
 pub nothing-bound : (x : ℕ) → _≡_ {A = ℕ} (getD (replicate 64 0) x 0) 0
 nothing-bound x = go (decLt x 64)

@@ -9,3 +9,12 @@ pub mod RowTies
 pub mod RowOrder
 pub mod Copying
 pub mod RowWords
+pub mod NextSteps
+pub mod Residual
+pub mod RowsExist
+pub mod Written
+pub mod Listing
+pub mod ListSteps
+pub mod Once
+pub mod AllRows
+pub mod TableLaws

@@ -27,7 +27,7 @@ module _ (p : Task) (h : ℕ) (ready : HeadTask p h) (js : List ℕ) (y : RowPla
   abbrev whole : List ℕ
   whole = js ++ y .rest
 
-  values : ℕ → ℕ
+  pub values : ℕ → ℕ
   values = mapped-stand p (ready .oneUse) whole (y .mapped) .0
 
   whole-long : length whole ≡ goals p
@@ -37,7 +37,7 @@ module _ (p : Task) (h : ℕ) (ready : HeadTask p h) (js : List ℕ) (y : RowPla
   unfolding values
   whole-stands = mapped-stand p (ready .oneUse) whole (y .mapped) .2
 
-  row-stands : (i : ℕ) → i < h → Stands p values i (getD js i 0)
+  pub row-stands : (i : ℕ) → i < h → Stands p values i (getD js i 0)
   row-stands i l = rw (List·getD-append js (y .rest) 0 i (omega (arith, y .long))) at (stand-at p values whole whole-stands i (omega (arith, length-append js (y .rest), y .long)))
 
 -- what starts below `from` is before what starts from there on

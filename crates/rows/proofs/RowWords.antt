@@ -1,13 +1,21 @@
 -- The words of a row, one by one, and as the words of a subgoal over terms.
 use mathlib.Core.Path.{_≡_, refl, sym, ap, ap₂, _∙_}
-use mathlib.Core.List.{List, [], _∷_, _++_, map}
+use mathlib.Core.Option.{some}
+use mathlib.Core.List.{List, [], _∷_, map}
 use Prim.Native.Nat.{ℕ, zero, suc, _+_, _*_, _-_, _<_, _≤_}
 use native.Mathlib.Omega.{arith}
 use lib.ListN.{length, getD, take, length-map}
 use lib.Seq.{length-take-le, getD-take}
-use Rattle.coding.specs.Code.{padded}
-use Rattle.ties.proofs.AtWords.{padded-long}
+use Rattle.words.specs.Words.{Term, con, Subgoal, Rule}
+use Rattle.words.specs.Summaries.{place}
+use Rattle.coding.specs.Code.{padded, termCode, subgoalWords}
+use Rattle.placing.specs.Task.{Task}
+use Rattle.ties.proofs.AtWords.{nothing, padded-long, term-at}
+use Rattle.ties.proofs.AtPlaces.{place-getD}
+use Rattle.rows.specs.RowTask.{alone, onto, rowTask, TaskOf}
 use Rattle.rows.specs.Steps.{rowWords}
+use Rattle.rows.proofs.AtTerms.{Stand, place-front}
+use Rattle.rows.proofs.RowOrder.{rowOf}
 
 padded-in : (f : ℕ → ℕ) (n : ℕ) (l : List ℕ) (i : ℕ) → i < n → i < length l → getD (padded n (map f l)) i 0 ≡ f (getD l i 0)
 padded-in f zero l i h m = absurd (omega arith)
@@ -46,3 +54,23 @@ module _ (number : ℕ) (target : List ℕ) where
     unfolding rowWords
     word-past zero o l = absurd (omega arith)
     word-past (suc i) o l = sym (padded-past 8 (map (λ k. getD target (9 * k + 1) 0) (take h ks)) i (omega arith) (omega (arith, front-long, length-map (take h ks) (λ k. getD target (9 * k + 1) 0))))
+
+-- A row's words are those of the terms at its places.
+module _ (v q : Rule ℕ) (ts : List (Term ℕ)) (p : Task) (h : ℕ) (w : TaskOf v q ts p h) where
+  word-of : (k : ℕ) (t : Term ℕ) → place ts (suc k) ≡ some t → getD (p .target) (9 * k + 1) 0 ≡ termCode t
+  word-of k t e =
+      let g = place-getD nothing (onto ts q) k (alone t) (place-front (q .body) ts k t e) in
+      let z : 9 * k + 1 + 0 ≡ 9 * k + 1 = omega arith in
+      ap (λ l. getD (l .target) (9 * k + 1) 0) (w .words) ∙ ap (λ i. getD (rowTask v q ts .target) i 0) (sym z)
+      ∙ term-at termCode (onto ts q) k 0 (con 0) (g .0) (omega arith) (omega (arith, ap (λ (s : Subgoal (Term ℕ)). length (s .terms)) (g .1)))
+      ∙ ap (λ (s : Subgoal (Term ℕ)). termCode (getD (s .terms) 0 (con 0))) (g .1)
+
+  words-of : (js : List ℕ) (row : List (Term ℕ)) → Stand ts js row → map (λ k. getD (p .target) (9 * k + 1) 0) js ≡ map termCode row
+  words-of [] [] s = refl
+  words-of [] (t ∷ row) s = absurd s
+  words-of (k ∷ js) [] s = absurd s
+  words-of (k ∷ js) (t ∷ row) s = ap₂ _∷_ (word-of k t (s .0)) (words-of js row (s .1))
+
+  pub row-words : (n : ℕ) (js : List ℕ) (row : List (Term ℕ)) → Stand ts js row → rowWords n (p .target) js ≡ subgoalWords termCode (rowOf n row)
+  unfolding rowWords
+  row-words n js row s = ap (λ l. n ∷ padded 8 l) (words-of js row s)

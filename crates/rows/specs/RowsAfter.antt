@@ -10,7 +10,7 @@ use Rattle.words.specs.Enumerate.{Enumerates}
 use Rattle.coding.specs.Code.{termCode, wordsOf}
 use Rattle.placing.specs.Task.{Task}
 use Rattle.rows.specs.RowTask.{TaskOf}
-use Rattle.rows.specs.declared.Rows.{Rows}
+use Rattle.rows.specs.declared.Tally.{Tally}
 
 -- A row of the summary of number n, whose rule is v: "the head of an admitted summary after sending its variables to terms of the question so that
 -- each of its subgoals becomes a subgoal of the question, constants kept."
@@ -24,7 +24,7 @@ mostRows = 64
 
 -- After `found` rows stand those of this summary, "sorted", "equal rows once", as far as there is room for 64 in all; whether there are more; how many stand there.
 -- A row is nine words. The words before them and after them stay.
-pub record RowsAfter (n : ℕ) (v q : Rule ℕ) (found : ℕ) (before after : List ℕ) (r : Rows) : Type 0 where
+pub record RowsAfter (n : ℕ) (v q : Rule ℕ) (found : ℕ) (before after : List ℕ) (r : Tally) : Type 0 where
   pub rows : List (Subgoal (Term ℕ))
   pub all : Enumerates (RowBy n v q) RowBefore rows
   pub over : r .over ≡ ltb mostRows (found + length rows)
@@ -41,5 +41,5 @@ pub record Asked (p : Task) (h found area : ℕ) : Type 0 where
   pub room : 9 * mostRows ≤ area
 
 -- What is promised, of every summary and question whose task it is.
-pub record Promised (p : Task) (h n found : ℕ) (before after : List ℕ) (r : Rows) : Type 0 where
+pub record Promised (p : Task) (h n found : ℕ) (before after : List ℕ) (r : Tally) : Type 0 where
   pub rows : (v q : Rule ℕ) (ts : List (Term ℕ)) → TaskOf v q ts p h → RowsAfter n v q found before after r

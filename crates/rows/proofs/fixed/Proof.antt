@@ -6,9 +6,6 @@ use Rattle.rows.specs.Steps.{fixing}
 use Rattle.rows.proofs.Copying.{fixing-start, fixing-step, fixing-end}
 use Rattle.rows.proofs.fixed.Statement.{statement}
 use Rattle.rows.proofs.fixed.Tie as tie
-use Rattle.rows.proofs.fixed.Reads as reads
-use Rattle.rows.proofs.fixed.Lts as lts
-use Rattle.rows.proofs.bound.Reads as bound-reads
 
 abbrev Inv-loop : tie.InvT-loop
 Inv-loop source target j ks g₀ i₀ g i = (i ≤ j) × (g ≡ fixing source target ks i)

@@ -5,8 +5,6 @@ use native.Mathlib.Omega.{arith}
 use Rattle.rows.proofs.RowWords.{word-number, word-term, word-past}
 use Rattle.rows.proofs.row_word.Statement.{statement}
 use Rattle.rows.proofs.row_word.Tie as tie
-use Rattle.rows.proofs.row_word.Reads as reads
-use Rattle.rows.proofs.row_word.Lts as lts
 
 returns : tie.Need-returns
 returns c = word-number _ _ _ _ (c .if1 .taken)

@@ -7,8 +7,6 @@ use lib.ListN.{length, take, drop, length-set}
 use Rattle.rows.proofs.Copying.{splice-start, splice-step, splice-end}
 use Rattle.rows.proofs.spliced.Statement.{statement}
 use Rattle.rows.proofs.spliced.Tie as tie
-use Rattle.rows.proofs.spliced.Reads as reads
-use Rattle.rows.proofs.spliced.Lts as lts
 
 abbrev Inv-loop : tie.InvT-loop
 Inv-loop j kept r₀ i₀ r i = (i ≤ j) × (length r ≡ 96) × (r ≡ take i kept ++ drop i r₀)
