@@ -1,14 +1,14 @@
 -- Summary by summary, the rows come to be all summary rows; where a summary's rows are too many, all rows are.
 use mathlib.Core.Path.{_≡_, refl, sym, ap, _∙_}
-use mathlib.Core.Logic.{inl, ⊎-elim}
+use mathlib.Core.Logic.{inl, ⊎-elim, _↔_}
 use mathlib.Core.Option.{Option, some, none, Option·none-ne-some, Option·some-injective}
-use mathlib.Core.List.{List, [], _∷_, _++_, List·Memᴰ·append-cases, Memᴰ·append-left, Memᴰ·append-right, List·Memᴰ·not-nil}
+use mathlib.Core.List.{List, [], _++_, List·Memᴰ·append-cases, Memᴰ·append-left, Memᴰ·append-right, List·Memᴰ·not-nil}
 use Prim.Native.Nat.{ℕ, suc, _<_, _≤_}
 use native.Mathlib.Omega.{arith}
 use native.Mathlib.Decide.{decLe}
 use lib.Dec.{ltb, ltb→lt, lt→ltb}
 use lib.ListN.{length, length-append}
-use Rattle.words.specs.Words.{_∈_, Term, Subgoal, Rule}
+use Rattle.words.specs.Words.{_∈_, Term, con, Subgoal, Rule, Listed, Yields}
 use Rattle.words.specs.Summaries.{place, Summaries, orNone, summary, SummaryRow}
 use Rattle.words.specs.Sound.{AllSafe}
 use Rattle.words.specs.Order.{RowBefore}
@@ -30,6 +30,13 @@ number-within s n r e = go (place s n) refl e
     go (some o) p f = place-within s n o p
 
 module _ (s : Summaries) (q : Rule ℕ) where
+  -- the rows by the rule of an admitted summary are the summary rows of its number
+  pub row-by : (n : ℕ) (v : Rule ℕ) → summary s n ≡ some v → (g : Subgoal (Term ℕ)) → RowBy n v q g ↔ ((g .relation ≡ n) × SummaryRow s q g)
+  row-by n v e g = (λ y. (y .number, record { rule = v; admitted = ap (summary s) (y .number) ∙ e; yields = y .yields }), λ y. record { number = y .0; yields = yields y })
+    where
+      yields : (g .relation ≡ n) × SummaryRow s q g → Yields con v (Listed (q .body)) (g .terms)
+      yields y = let r : y .1 .rule ≡ v = Option·some-injective (y .1 .rule) v (sym (y .1 .admitted) ∙ ap (summary s) (y .0) ∙ e) in rw r at (y .1 .yields)
+
   pub rows-none : Enumerates (RowTo s q 0) RowBefore []
   rows-none = record { sound = λ g m. absurd (List·Memᴰ·not-nil m); complete = λ g y. absurd (omega (arith, y .upTo, number-within s (g .relation) (y .row .rule) (y .row .admitted) .0)); rising = tt }
 
@@ -56,14 +63,11 @@ module _ (s : Summaries) (q : Rule ℕ) where
   }
     where
       new : (g : Subgoal (Term ℕ)) → RowBy (suc n) v q g → RowTo s q (suc n) g
-      new g y = record { row = record { rule = v; admitted = ap (summary s) (y .number) ∙ e; yields = y .yields }; upTo = omega (arith, y .number) }
+      new g y = record { row = row-by (suc n) v e g .0 y .1; upTo = omega (arith, y .number) }
 
       old-or-new : (g : Subgoal (Term ℕ)) → RowTo s q (suc n) g → Dec (g .relation ≤ n) → g ∈ (l ++ m)
       old-or-new g y (yes h) = Memᴰ·append-left m (a .complete g record { row = y .row; upTo = h })
-      old-or-new g y (no h) =
-          let z : g .relation ≡ suc n = omega (arith, y .upTo) in
-          let r : y .row .rule ≡ v = Option·some-injective (y .row .rule) v (sym (y .row .admitted) ∙ ap (summary s) z ∙ e) in
-          Memᴰ·append-right l (b .complete g record { number = z; yields = rw r at (y .row .yields) })
+      old-or-new g y (no h) = Memᴰ·append-right l (b .complete g (row-by (suc n) v e g .1 (omega (arith, y .upTo), y .row)))
 
   -- the rows of all summaries are all summary rows
   pub rows-all : AllSafe s → (l : List (Subgoal (Term ℕ))) → Enumerates (RowTo s q (length s)) RowBefore l → l ≡ allRows s q

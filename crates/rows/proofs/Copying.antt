@@ -1,10 +1,10 @@
 -- What the small loops of the listing leave: bindings that are fixed, places that are spliced, words that are written.
 use mathlib.Core.Path.{_≡_, refl, sym, ap, ap₂, _∙_}
-use mathlib.Core.List.{List, _∷_, _++_}
+use mathlib.Core.List.{List, _++_}
 use Prim.Native.Nat.{ℕ, suc, _+_, _*_, _<_, _≤_}
 use native.Mathlib.Omega.{arith}
 use native.Mathlib.Numerals.{add-one}
-use lib.ListN.{length, getD, set, take, drop, replicate, length-append}
+use lib.ListN.{length, getD, set, take, drop, replicate}
 use lib.Seq.{length-take-le, drop-cons, set-at, append-snoc, take-suc, paste, paste-suc}
 use Rattle.rows.specs.Steps.{binding, fixing}
 

@@ -1,15 +1,15 @@
 -- The next row: with the places before j kept, place j is taken one target further, from the last place of the head on down.
-use mathlib.Core.Path.{_≡_, refl, sym, ap, ap₂, _∙_, subst}
+use mathlib.Core.Path.{_≡_, refl, sym, ap, _∙_, subst}
 use mathlib.Core.Logic.{_⊎_, inl, inr, ⊎-elim}
-use mathlib.Core.Bool.{Bool, true, false}
+use mathlib.Core.Bool.{true, false}
 use mathlib.Core.List.{List, [], _∷_, _++_, append-assoc}
-use Prim.Native.Nat.{ℕ, zero, suc, _+_, _*_, _-_, _<_, _≤_}
+use Prim.Native.Nat.{ℕ, zero, suc, _+_, _*_, _-_, _<_}
 use native.Mathlib.Omega.{arith}
-use lib.ListN.{length, getD, take, drop, replicate, length-append, length-take, length-drop, length-replicate, take-append-drop, drop-of-length-le, List·getD-append}
-use lib.Seq.{length-take-le, take-append-le, drop-append-le, take-append-add, drop-at, take-at, getD-take, take-take, drop-cons, take-suc}
+use lib.ListN.{length, getD, take, drop, replicate, length-append, length-drop, length-replicate, take-append-drop, drop-of-length-le, List·getD-append}
+use lib.Seq.{length-take-le, take-append-le, drop-append-le, take-append-add, drop-at, take-at, getD-take, take-take, drop-cons}
 use Rattle.words.specs.Order.{ListBefore, First}
-use Rattle.placing.specs.Task.{Task, goals, targets, targetTerm, Agrees, Completes}
-use Rattle.placing.specs.Mapped.{Mapped, laid}
+use Rattle.placing.specs.Task.{Task, goals}
+use Rattle.placing.specs.Mapped.{Mapped}
 use Rattle.placing.specs.Answer.{FromOn, Completion, PlacesFrom}
 use Rattle.placing.specs.declared.Places.{Places}
 use Rattle.rows.specs.RowPlaces.{HeadTask, RowPlaces, LaterPlaces}

@@ -1,5 +1,5 @@
 -- The steps of the search for the next row, as its code takes them.
-use mathlib.Core.Path.{_≡_, refl, sym, ap, _∙_, subst}
+use mathlib.Core.Path.{_≡_, sym, subst}
 use mathlib.Core.Bool.{true, false}
 use mathlib.Core.List.{List, _++_}
 use Prim.Native.Nat.{ℕ, suc, _+_, _*_, _-_, _<_, _≤_}
@@ -10,7 +10,7 @@ use Rattle.words.specs.Order.{ListBefore, First}
 use Rattle.placing.specs.Task.{Task, targets}
 use Rattle.placing.specs.Answer.{PlacesFrom}
 use Rattle.placing.specs.declared.Places.{Places}
-use Rattle.rows.specs.RowPlaces.{HeadTask, RowPlaces, LaterPlaces, AtRow, NextPlaces}
+use Rattle.rows.specs.RowPlaces.{LaterPlaces, AtRow, NextPlaces}
 use Rattle.rows.specs.Steps.{fixing, InReach}
 use Rattle.rows.proofs.NextLaw.{Gone, row-stands, gone-more, next-none, next-found}
 

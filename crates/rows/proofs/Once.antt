@@ -1,11 +1,10 @@
 -- Two lists of just those with a property, in order, are the same; so any two results of the listing are the same.
 use mathlib.Core.Path.{_≡_, refl, sym, ap, ap₂, _∙_, subst}
-use mathlib.Core.List.{List, [], _∷_, _++_, List·Memᴰ·head, List·Memᴰ·not-nil}
+use mathlib.Core.List.{List, [], _∷_, _++_, List·Memᴰ·not-nil}
 use Prim.Native.Nat.{ℕ, _+_, _*_, _-_}
 use lib.Dec.{ltb}
 use lib.ListN.{length, take, drop}
-use Rattle.words.specs.Words.{Term, Subgoal, Rule}
-use Rattle.words.specs.Order.{RowBefore}
+use Rattle.words.specs.Words.{Rule}
 use Rattle.words.specs.Orders.{rowOrder}
 use Rattle.words.specs.Strict.{Strict}
 use Rattle.words.specs.Enumerate.{Enumerates, enumerates-first}

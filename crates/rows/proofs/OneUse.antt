@@ -2,14 +2,14 @@
 use mathlib.Core.Path.{_≡_, refl, sym, ap, _∙_, subst, fun-ext}
 use mathlib.Core.Bool.{cond}
 use mathlib.Core.List.{List, [], _∷_, _++_}
-use Prim.Native.Nat.{ℕ, zero, suc, _+_, _-_, _<_, _≤_}
+use Prim.Native.Nat.{ℕ, zero, suc, _+_, _-_, _<_}
 use native.Mathlib.Omega.{arith}
 use native.Mathlib.Decide.{decLt}
 use lib.ListN.{length, getD, drop, length-append, length-drop, List·getD-append}
 use lib.Seq.{getD-drop, getD-append-add}
 use lib.Dec.{eqb}
-use Rattle.placing.specs.Task.{Task, goals, targets, lastOf, Agrees, Linked, Completes, done, put}
-use Rattle.placing.specs.Mapped.{useOf, Lands, Mapped}
+use Rattle.placing.specs.Task.{Task, goals, targets, lastOf, Agrees, Completes, done, put}
+use Rattle.placing.specs.Mapped.{useOf, Mapped}
 
 -- under v the source subgoal i becomes the target k
 pub record Stands (p : Task) (v : ℕ → ℕ) (i k : ℕ) : Type 0 where

@@ -1,6 +1,6 @@
 -- What is left of an enumeration after one of its elements enumerates what comes after that one; so the first of the rest is the next.
-use mathlib.Core.Path.{_≡_, refl, sym, ap, _∙_, subst}
-use mathlib.Core.Logic.{inl, inr, ⊎-elim}
+use mathlib.Core.Path.{_≡_, refl, sym, ap, subst}
+use mathlib.Core.Logic.{⊎-elim}
 use mathlib.Core.Option.{some, none, Option·none-ne-some, Option·some-injective, Option·some-ne-none}
 use mathlib.Core.List.{List, [], _∷_, _++_, List·Memᴰ·head, List·Memᴰ·tail, List·Memᴰ·append-cases, Memᴰ·append-right, List·Memᴰ·not-nil}
 use Rattle.words.specs.Words.{_∈_}

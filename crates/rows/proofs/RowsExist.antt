@@ -1,5 +1,5 @@
 -- All rows of a safe summary, in order, as a list.
-use mathlib.Core.Path.{_≡_, refl, sym, ap, subst}
+use mathlib.Core.Path.{_≡_, refl, subst}
 use mathlib.Core.List.{List, map, Memᴰ·map, Memᴰ·of-map, Memᴰ·cast}
 use Prim.Native.Nat.{ℕ}
 use Rattle.words.specs.Words.{_∈_, Term, con, Subgoal, Rule, Safe}

@@ -1,16 +1,15 @@
 -- The task of a summary's rows fits the search, and its words fit each other.
 use mathlib.Core.Path.{_≡_, refl, sym, ap, _∙_, subst}
 use mathlib.Core.Logic.{_⊎_, inl, inr, ⊎-elim, _↔_}
-use mathlib.Core.List.{List, [], _∷_, _++_, map, List·Memᴰ·head, List·Memᴰ·not-nil, List·Memᴰ·eq-of-singleton, List·Memᴰ·append-cases, Memᴰ·of-map}
-use Prim.Native.Nat.{ℕ, zero, suc, _+_, _<_, _≤_}
+use mathlib.Core.List.{List, [], _++_, map, List·Memᴰ·eq-of-singleton, List·Memᴰ·append-cases, Memᴰ·of-map}
+use Prim.Native.Nat.{ℕ, _+_, _<_, _≤_}
 use native.Mathlib.Omega.{arith}
 use native.Mathlib.Decide.{decLt}
 use lib.ListN.{length, getD, replicate, length-append, length-map, length-replicate, getD-replicate, List·getD-eq-default, List·getD-append}
-use Rattle.words.specs.Words.{_∈_, Term, var, con, Subgoal, Rule, Fits}
+use Rattle.words.specs.Words.{_∈_, Term, con, Subgoal, Rule, Fits}
 use Rattle.layout.specs.RuleLayout.{TermWithin}
 use Rattle.layout.specs.BookLayout.{Arities}
-use Rattle.coding.specs.Code.{termCode}
-use Rattle.placing.specs.Task.{Task, Sized, lastOf, widthOf, goals}
+use Rattle.placing.specs.Task.{Task, widthOf, goals}
 use Rattle.placing.specs.Mapped.{Mapped}
 use Rattle.ties.specs.Coded.{In, Small, Sent}
 use Rattle.ties.specs.Codings.{slotNaming, termCoding, RuleSource}

@@ -1,8 +1,6 @@
 use borrow.Author.Needs.{needs}
-use mathlib.Core.Path.{_≡_}
 use Prim.Native.Nat.{_≤_, _-_}
 use native.Mathlib.Omega.{arith}
-use lib.ListN.{length, getD}
 use Rattle.placing.specs.Task.{posed}
 use Rattle.rows.proofs.NextLaw.{Gone, gone-start}
 use Rattle.rows.proofs.NextSteps.{place-within, in-reach, in-source, found-none, found-not, found-row}
@@ -19,7 +17,7 @@ loop-holds : tie.Need-loop-holds Inv-loop μ-loop
 loop-holds c = (omega arith, gone-start _ _ (c .before .before .before .before .before .pre .task) _ (search needs))
 
 fixed-requires : tie.Need-fixed-requires Inv-loop μ-loop
-fixed-requires c κs = let at = c .before .before .before .before .before .before .before .pre in (in-reach _ _ _ at _ (omega (arith, c .before .loop .inv .0)), in-source _ _ _ at _ (omega (arith, c .before .loop .inv .0)))
+fixed-requires c κs = let at = c .before .before .before .before .before .before .before .pre in (in-reach _ _ _ at (c .before .loop .j - 1) (omega (arith, c .before .loop .inv .0)), in-source _ _ _ at (c .before .loop .j - 1) (omega (arith, c .before .loop .inv .0)))
 
 add-from : tie.Need-add-from Inv-loop μ-loop
 add-from c = omega (arith, c .before .before .before .before .before .before .before .before .pre .task .sized .many, place-within _ _ _ (c .before .before .before .before .before .before .before .before .pre) (c .before .before .loop .j - 1) (omega (arith, c .before .before .loop .inv .0, c .before .loop-test .taken)))

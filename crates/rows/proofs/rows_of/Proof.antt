@@ -1,8 +1,5 @@
-use borrow.Author.Needs.{needs}
-use mathlib.Core.Path.{_≡_}
-use Prim.Native.Nat.{_≤_, _-_}
+use Prim.Native.Nat.{_-_}
 use native.Mathlib.Omega.{arith}
-use lib.ListN.{length}
 use Rattle.placing.specs.Task.{posed}
 use Rattle.rows.proofs.ListSteps.{State, fewer, head-task, state-start, at-row, room, state-more, state-over, state-end}
 use Rattle.rows.proofs.NextSteps.{in-reach}
