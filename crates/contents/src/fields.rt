@@ -7,7 +7,7 @@ ghost use Rattle.layout.specs.Contents.{count, offsetAt, lengthAt, stampAt};
 use numbers::u16_at;
 use numbers::u32_at;
 
-pub(crate) fn count_of(book: &[u8]) -> usize
+pub fn count_of(book: &[u8]) -> usize
     requires { ⌜ 2 ≤ length (now book) ⌝ }
     ensures { λ r. ⌜ r ≡ count (now (book .entry)) ⌝ }
 {

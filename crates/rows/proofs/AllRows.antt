@@ -75,9 +75,9 @@ module _ (s : Summaries) (q : Rule ℕ) where
       record { sound = λ g m. a .sound g m .row; complete = λ g y. a .complete g record { row = y; upTo = number-within s (g .relation) (y .rule) (y .admitted) .1 }; rising = a .rising }
       (allRows-enumerate s q safe)
 
-  -- the rows of some summaries are no more than all summary rows
-  pub rows-part : AllSafe s → (n : ℕ) (l : List (Subgoal (Term ℕ))) → Enumerates (RowTo s q n) RowBefore l → length l ≤ length (allRows s q)
-  rows-part safe n l a = omega (arith, ap length whole, length-append l later)
+  -- the rows of the summaries 1 to n are the first of all summary rows
+  pub rows-front : AllSafe s → (n : ℕ) (l : List (Subgoal (Term ℕ))) → Enumerates (RowTo s q n) RowBefore l → (later : List (Subgoal (Term ℕ))) × (allRows s q ≡ l ++ later)
+  rows-front safe n l a = (later, whole)
     where
       later : List (Subgoal (Term ℕ))
       later = passing (λ g. ltb n (g .relation)) (allRows s q)

@@ -1,0 +1,76 @@
+-- The target that is made of a sound book's question.
+use mathlib.Core.Path.{_≡_, refl, sym, ap, _∙_, subst}
+use mathlib.Core.List.{List, map}
+use Prim.Native.Nat.{ℕ, _+_, _*_, _<_, _≤_}
+use native.Mathlib.Omega.{arith}
+use lib.ListN.{length, take, replicate, length-append, length-map}
+use lib.Seq.{length-take-le}
+use Rattle.words.specs.Words.{Rule}
+use Rattle.words.specs.Book.{Book}
+use Rattle.layout.specs.RuleLayout.{Layout}
+use Rattle.layout.specs.BookLayout.{questionMost, SoundBook}
+use Rattle.layout.specs.Contents.{entriesIn, partAt}
+use Rattle.layout.specs.Refusals.{Loads}
+use Rattle.layout.proofs.BookPasses.{book-loads, question-reads}
+use Rattle.layout.proofs.Within.{entries-some}
+use Rattle.coding.specs.Code.{termCode, wordsOf}
+use Rattle.wording.specs.Laid.{QuestionLaid}
+use Rattle.wording.proofs.Stores.{front-length}
+use Rattle.wording.proofs.WordLaws.{words-length}
+use Rattle.rows.specs.RowTask.{alone, onto}
+use Rattle.listing.specs.Listing.{Sought}
+use Rattle.listing.specs.Tasks.{TargetWords, TargetIs}
+use Rattle.listing.specs.Turns.{OntoQuestion}
+use Rattle.listing.proofs.Behind.{front-read}
+use Rattle.listing.proofs.RowsSteps.{zeros-take}
+
+module _ {book : List ℕ} {area : ℕ} (w : Sought book area) where
+  pub loads-it : Loads book
+  loads-it = book-loads (w .sound)
+
+  pub has-relations : 0 < entriesIn book
+  has-relations = omega (arith, entries-some book)
+
+  module _ {relations body : List ℕ} (first : relations ≡ partAt book 0) (part : body ≡ partAt book 1) where
+    question-laid : (b : Book) → SoundBook book b → Layout relations questionMost body (b .question)
+    question-laid b s = rw (first, part) (question-reads s)
+
+    pub question-is : QuestionLaid relations body
+    question-is = record { known = rw first (loads-it .relations .arities); rule = w .value .question; layout = question-laid (w .value) (w .sound) }
+
+    module _ {before after : List ℕ} {n : ℕ} (wide : length before ≡ 972) (t : TargetWords relations body before after n) where
+      targets-most : (q : Rule ℕ) (l : Layout relations questionMost body q) → length (onto (t .terms q l) q) ≤ 108
+      targets-most q l =
+          let few = t .all q l .few in
+          let goals = l .within .few in
+          omega (arith, length-append (map alone (t .terms q l)) (q .body), length-map (t .terms q l) alone)
+
+      pub targets-few : n ≤ 108
+      targets-few = let q = w .value .question in let l = question-laid (w .value) (w .sound) in omega (arith, t .count q l, targets-most q l)
+
+      pub target-long : length after ≡ 972
+      target-long =
+          let q = w .value .question in
+          let l = question-laid (w .value) (w .sound) in
+          ap length (t .words q l) ∙ front-length (wordsOf termCode (onto (t .terms q l) q)) before (omega (arith, words-length termCode (onto (t .terms q l) q), targets-most q l)) ∙ wide
+
+      pub target-part : length (take (9 * n) after) ≡ 9 * n
+      target-part = length-take-le (9 * n) after (omega (arith, target-long, targets-few))
+
+      pub own-part : length (take n (replicate {A = ℕ} 108 0)) ≡ n
+      own-part = length-take-le n (replicate 108 0) (omega (arith, targets-few))
+
+      pub onto-question : OntoQuestion book (take (9 * n) after) (take n (replicate 108 0))
+      onto-question = record { is = is }
+        where
+          is : (b : Book) → SoundBook book b → TargetIs (b .question) (take (9 * n) after) (take n (replicate 108 0))
+          is b s =
+              let q = b .question in
+              let l = question-laid b s in
+              let words = wordsOf termCode (onto (t .terms q l) q) in
+              record {
+                terms = t .terms q l;
+                all = t .all q l;
+                words = ap (take (9 * n)) (t .words q l) ∙ front-read words before (9 * n) (omega (arith, words-length termCode (onto (t .terms q l) q), t .count q l));
+                marks = zeros-take n 108 targets-few ∙ ap (λ k. replicate k 0) (t .count q l);
+              }

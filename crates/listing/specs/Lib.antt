@@ -1,0 +1,4 @@
+pub mod Alone
+pub mod Tasks
+pub mod Turns
+pub mod Listing
