@@ -7,7 +7,6 @@ ghost use lib.ListN.{length};
 mod tasks; // the words of the tasks of placing
 
 use books::parts::part_of;
-use wording::places::head_count;
 use contents::fields::count_of;
 use contents::fields::stamp_at;
 use refresh::is_admitted;
@@ -15,6 +14,7 @@ use rows::Tally;
 use rows::rows_of;
 use tasks::put_source;
 use tasks::put_target;
+use wording::places::head_count;
 
 // All summary rows, so many; or there are more than 64.
 pub enum Listed {

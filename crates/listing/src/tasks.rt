@@ -6,11 +6,11 @@ ghost use Rattle.wording.specs.Codes.{atFront};
 ghost use Rattle.wording.specs.Laid.{QuestionLaid};
 ghost use Rattle.listing.specs.Alone.{aloneWord, aloneWords};
 ghost use Rattle.listing.specs.Tasks.{SomeSummary, HeadSlots, SourceWords, TargetWords};
-use builders::questions::body_terms;
 use builders::bodies::slot_words;
 use builders::bodies::term_words;
-use wording::places::head_count;
+use builders::questions::body_terms;
 use numbers::u32_at;
+use wording::places::head_count;
 
 // The relation of a head's places and of the terms that they are placed on: no rule's, since relations are numbered from 0 and there are at most 32.
 const HEAD: u64 = 255;
