@@ -62,7 +62,7 @@ module _ {book rows : List ℕ} {n : ℕ} where
         }
 
     -- the uses of one row more
-    uses-take : (r : ℕ) → r < n → uses (admittedOf b) 0 (take (r + 1) l) ≡ uses (admittedOf b) 0 (take r l) ++ (inPlace (admittedOf b) r (rowAt l r) ∷ [])
+    pub uses-take : (r : ℕ) → r < n → uses (admittedOf b) 0 (take (r + 1) l) ≡ uses (admittedOf b) 0 (take r l) ++ (inPlace (admittedOf b) r (rowAt l r) ∷ [])
     uses-take r h =
         let less : r < length l = let c = w .count in omega arith in
         let one : r + 1 ≡ suc r = omega arith in
@@ -70,7 +70,7 @@ module _ {book rows : List ℕ} {n : ℕ} where
         ap (λ k. uses (admittedOf b) 0 (take k l)) one ∙ ap (uses (admittedOf b) 0) (take-suc l r nothing less)
         ∙ uses-more (admittedOf b) 0 (take r l) (rowAt l r) ∙ ap (λ k. uses (admittedOf b) 0 (take r l) ++ (inPlace (admittedOf b) k (rowAt l r) ∷ [])) many
 
-    uses-many : (r : ℕ) → r ≤ n → length (uses (admittedOf b) 0 (take r l)) ≡ r
+    pub uses-many : (r : ℕ) → r ≤ n → length (uses (admittedOf b) 0 (take r l)) ≡ r
     uses-many r h = uses-long (admittedOf b) 0 (take r l) ∙ length-take-le r l (let c = w .count in omega arith)
 
   pub row-there : RowsGiven book rows n → (r : ℕ) → r < n → RowGiven book (rowFrom rows r)

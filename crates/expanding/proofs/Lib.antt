@@ -2,3 +2,5 @@ pub mod RowUse
 pub mod Stored
 pub mod Spread
 pub mod Growing
+pub mod Beginnings
+pub mod Read

@@ -23,13 +23,13 @@ use Rattle.layout.proofs.BookStands.{book-entries}
 use Rattle.layout.proofs.BookPasses.{book-loads, summary-reads}
 use Rattle.coding.specs.Code.{termCode, padded, subgoalWords, wordsOf, widthsOf}
 use Rattle.wording.specs.Codes.{atFront}
-use Rattle.wording.specs.Laid.{LaidFor, UseOf, UseFor}
-use Rattle.wording.specs.Promises.{BodyWidths}
+use Rattle.wording.specs.Laid.{Laid, LaidFor, UseOf, UseFor}
+use Rattle.wording.specs.Promises.{GoalCount, BodyWidths}
 use Rattle.builders.specs.Uses.{UseWords}
 use Rattle.wording.proofs.CodeLaws.{widths-each}
 use Rattle.wording.proofs.WordLaws.{padded-length}
 use Rattle.expanding.specs.Given.{RowOf, RowGiven}
-use Rattle.expanding.specs.Promises.{OneUse, OneWidths}
+use Rattle.expanding.specs.Promises.{OneUse, OneCount, OneWidths}
 
 -- an admitted rule is that of the summary of its number
 admitted-place : (need : ℕ) (ms : List Summary) (n : ℕ) (r : Rule ℕ) → summary (map (ruleOf need) ms) n ≡ some r → (m : Summary) × (place ms n ≡ some m) × (m .rule ≡ r)
@@ -134,6 +134,16 @@ module _ {book row : List ℕ} (given : RowGiven book row) where
 
     pub laid-for : (area : ℕ) → 8 ≤ area → LaidFor arities bytes 1 area
     laid-for area h = let o = use-of (given .is) arities bytes p q in record { most = o .most; rule = rule (given .is); layout = o .layout; room = let n = goals (given .is) in omega arith }
+
+    pub laid : Laid bytes
+    laid = let o = use-of (given .is) arities bytes p q in record { arities = arities; most = o .most; rule = rule (given .is); layout = o .layout }
+
+    pub one-count : {n : ℕ} → GoalCount bytes n → OneCount book row n
+    one-count e =
+        let o = use-of (given .is) arities bytes p q in
+        let same = e .is arities (o .most) (rule (given .is)) (o .layout) in
+        let n = goals (given .is) in
+        record { some = omega arith; few = omega arith; count = λ b g u w. let o = use-of w arities bytes p q in e .is arities (o .most) (rule w) (o .layout) ∙ sym (use-count w u) }
 
     pub one-use : {code : Term (Own ℕ) → ℕ} {u : ℕ} {before after : List ℕ} {n : ℕ} → UseWords arities bytes (take (length row - 1) (drop 1 row)) code u before after n → OneUse book row code u before after n
     one-use {u = u} e =

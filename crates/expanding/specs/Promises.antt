@@ -21,6 +21,12 @@ module _ (book row : List ℕ) where
     pub count : (b : Book) (g : Subgoal (Term ℕ)) → RowOf book row b g → n ≡ length (inPlace (admittedOf b) u g)
     pub words : (b : Book) (g : Subgoal (Term ℕ)) → RowOf book row b g → after ≡ atFront (wordsOf code (inPlace (admittedOf b) u g)) before
 
+  -- how many subgoals it has
+  pub record OneCount (n : ℕ) : Type 0 where
+    pub some : 1 ≤ n
+    pub few : n ≤ 8
+    pub count : (b : Book) (g : Subgoal (Term ℕ)) (u : ℕ) → RowOf book row b g → n ≡ length (inPlace (admittedOf b) u g)
+
   -- how many terms each of its subgoals has
   pub record OneWidths (before after : List ℕ) : Type 0 where
     pub widths : (b : Book) (g : Subgoal (Term ℕ)) (u : ℕ) → RowOf book row b g → after ≡ atFront (widthsOf (inPlace (admittedOf b) u g)) before
@@ -48,3 +54,7 @@ module _ (book rows : List ℕ) (n : ℕ) where
   -- whether it ends its use
   pub record AllEnds (before after : List ℕ) : Type 0 where
     pub is : (b : Book) (l : List (Subgoal (Term ℕ))) → RowsOf book rows n b l → after ≡ atFront (endsOf (uses (admittedOf b) 0 l)) before
+
+  -- where each row's use begins among them, and behind that where the last ends
+  pub record AllStarts (before after : List ℕ) : Type 0 where
+    pub is : (b : Book) (l : List (Subgoal (Term ℕ))) → RowsOf book rows n b l → after ≡ atFront (starts 0 (uses (admittedOf b) 0 l)) before

@@ -1,15 +1,16 @@
 // The uses of a list of rows, one after the other.
 ghost use mathlib.Core.Path.{_≡_};
-ghost use Prim.Native.Nat.{_*_, _<_, _≤_};
+ghost use Prim.Native.Nat.{_+_, _*_, _<_, _≤_};
 ghost use lib.ListN.{length};
 ghost use Rattle.coding.specs.Code.{ownCode, ownSlot};
 ghost use Rattle.expanding.specs.Given.{RowsGiven};
-ghost use Rattle.expanding.specs.Promises.{Counted, AllWords, AllOwners, AllInsides, AllWidths, AllEnds};
+ghost use Rattle.expanding.specs.Promises.{Counted, AllWords, AllOwners, AllInsides, AllWidths, AllEnds, AllStarts};
 use super::marks::count_up;
 use super::marks::fill;
 use super::marks::mark_end;
 use super::one::own_use;
 use super::one::slot_use;
+use super::one::use_count;
 
 // As a target: of each subgoal its nine words, the number of its use and its place there. Returns how many subgoals there are.
 pub fn expand(
@@ -60,4 +61,20 @@ pub fn expand_back(
         r += 1;
     }
     at
+}
+
+// Where each row's use begins among the subgoals of all, and behind that where the last ends: what lies between two is one row's.
+pub fn use_starts(book: &[u8], rows: &[u64], n: usize, starts: &mut [u16])
+    requires { ⌜ RowsGiven (now book) (now rows) n × (n ≤ 64) × (n + 1 ≤ length (now starts)) ⌝ }
+    ensures { λ _. ⌜ AllStarts (now (book .entry)) (now (rows .entry)) n (now (starts .entry)) (now (starts .exit)) ⌝ }
+{
+    let mut at: usize = 0;
+    let mut r: usize = 0;
+    starts[0] = 0;
+    while r < n {
+        let row = 9 * r;
+        at += use_count(book, &rows[row..]);
+        r += 1;
+        starts[r] = at as u16;
+    }
 }

@@ -5,12 +5,13 @@ ghost use lib.ListN.{length, getD};
 ghost use Rattle.layout.specs.Contents.{partAt};
 ghost use Rattle.coding.specs.Code.{ownCode, ownSlot, keptSlot};
 ghost use Rattle.expanding.specs.Given.{RowGiven};
-ghost use Rattle.expanding.specs.Promises.{OneUse, OneWidths};
+ghost use Rattle.expanding.specs.Promises.{OneUse, OneCount, OneWidths};
 use books::parts::part_of;
 use builders::bodies::body_widths;
 use builders::uses::kept_slots;
 use builders::uses::own_slots;
 use builders::uses::own_words;
+use wording::places::goal_count;
 
 // The bytes of the row's summary: "entry i + 1 summary i".
 fn summary_of<'a>(book: &'a [u8], row: &[u64]) -> &'a [u8]
@@ -28,6 +29,14 @@ pub fn own_use(book: &[u8], row: &[u64], u: u64, out: &mut [u64]) -> usize
     let body = summary_of(book, row);
     let relations = part_of(book, 0);
     own_words(body, relations, &row[1..], u, out)
+}
+
+// How many subgoals it has.
+pub fn use_count(book: &[u8], row: &[u64]) -> usize
+    requires { ⌜ RowGiven (now book) (now row) ⌝ }
+    ensures { λ r. ⌜ OneCount (now (book .entry)) (now (row .entry)) r ⌝ }
+{
+    goal_count(summary_of(book, row))
 }
 
 // How many terms each of its subgoals has.
