@@ -1,18 +1,18 @@
 -- What stands in a sound book for a summary: its stamp, its rule, and whether it is admitted.
-use mathlib.Core.Path.{_≡_, refl, sym, ap, ap₂, _∙_}
+use mathlib.Core.Path.{_≡_, sym, ap, ap₂, _∙_}
 use mathlib.Core.Bool.{Bool}
 use mathlib.Core.Option.{some}
 use mathlib.Core.List.{List}
-use Prim.Native.Nat.{ℕ, zero, suc, _+_, _*_, _<_, _≤_}
+use Prim.Native.Nat.{ℕ, suc, _+_, _*_, _<_, _≤_}
 use native.Mathlib.Omega.{arith}
 use lib.ListN.{length}
 use Rattle.words.specs.Words.{Rule}
 use Rattle.words.specs.Refresh.{admitted}
 use Rattle.words.specs.Summaries.{place, orNone, summary}
 use Rattle.words.specs.Book.{Summary, Book, ifTrue, admittedOf}
-use Rattle.layout.specs.BookLayout.{entries, SoundBook}
+use Rattle.layout.specs.BookLayout.{SoundBook}
 use Rattle.layout.specs.Contents.{entriesIn, stampAt}
-use Rattle.layout.proofs.Places.{place-map, place-some}
+use Rattle.layout.proofs.Places.{place-map}
 use Rattle.layout.proofs.BookStands.{book-entries, question-stamp, summary-stamp}
 use Rattle.layout.proofs.BookPasses.{book-loads}
 use Rattle.layout.proofs.Within.{entries-are, entries-some, loads-room}

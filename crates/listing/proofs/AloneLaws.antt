@@ -1,12 +1,12 @@
 -- The words of subgoals of one term: how many, which, and whose.
-use mathlib.Core.Path.{_≡_, refl, sym, ap, ap₂, _∙_}
+use mathlib.Core.Path.{_≡_, refl, sym, ap, _∙_}
 use mathlib.Core.List.{List, [], _∷_, _++_, map}
 use Prim.Native.Nat.{ℕ, zero, suc, _+_, _*_, _/_, _%_, _<_, _≤_}
 use native.Mathlib.Omega.{arith}
 use lib.ListN.{length, getD, take, set, length-map}
 use lib.Seq.{sets}
-use Rattle.words.specs.Words.{Term, Subgoal, itself}
-use Rattle.coding.specs.Code.{padded, subgoalWords, wordsOf}
+use Rattle.words.specs.Words.{Term, itself}
+use Rattle.coding.specs.Code.{subgoalWords, wordsOf}
 use Rattle.wording.specs.Codes.{atFront}
 use Rattle.wording.proofs.Stores.{stores-more, stores-end, front-more}
 use Rattle.wording.proofs.WordLaws.{padded-at}

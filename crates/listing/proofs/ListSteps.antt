@@ -2,7 +2,7 @@
 use mathlib.Core.Path.{_≡_, refl, sym, ap, _∙_, subst}
 use mathlib.Core.Bool.{true, false}
 use mathlib.Core.Option.{Option, some, none}
-use mathlib.Core.List.{List, _++_}
+use mathlib.Core.List.{List}
 use Prim.Native.Nat.{ℕ, suc, _+_, _*_, _<_, _≤_}
 use native.Mathlib.Omega.{arith}
 use lib.ListN.{length, take, drop, length-append, length-drop, length-map}
@@ -27,7 +27,7 @@ use Rattle.rows.specs.Tables.{TableTo}
 use Rattle.rows.specs.declared.Tally.{Tally}
 use Rattle.rows.proofs.TableLaws.{table-none, table-skip, table-more, table-over, over-words, table-all}
 use Rattle.listing.specs.Listing.{Sought, TooMany, AllStand, Listing}
-use Rattle.listing.specs.Turns.{HasSummary, OntoQuestion, Turn, TurnSays, TablesTo}
+use Rattle.listing.specs.Turns.{OntoQuestion, Turn, TurnSays, TablesTo}
 use Rattle.listing.specs.declared.Listed.the-variants.{All, Over}
 
 safe-of : (b : Book) {book : List ℕ} → SoundBook book b → AllSafe (admittedOf b)

@@ -1,19 +1,18 @@
 -- The task of one summary's rows, as the words that are lent to the search.
 use mathlib.Core.Path.{_≡_, refl, sym, ap, _∙_}
-use mathlib.Core.List.{List, [], _∷_, map}
-use Prim.Native.Nat.{ℕ, zero, suc, _+_, _*_, _≤_}
+use mathlib.Core.List.{List, _∷_, map}
+use Prim.Native.Nat.{ℕ, zero, suc, _*_, _≤_}
 use native.Mathlib.Omega.{arith}
-use lib.ListN.{length, take, replicate, length-append, length-map, length-replicate}
+use lib.ListN.{length, take, replicate, length-append, length-map}
 use lib.Seq.{length-take-le}
 use Rattle.words.specs.Words.{Rule}
 use Rattle.coding.specs.Code.{slotCode, wordsOf, widthsOf}
-use Rattle.wording.specs.Codes.{atFront}
 use Rattle.wording.specs.Promises.{HeadCount}
 use Rattle.wording.proofs.Stores.{front-length}
 use Rattle.wording.proofs.WordLaws.{words-length}
 use Rattle.placing.specs.Task.{Task, posed}
-use Rattle.rows.specs.RowTask.{alone, placed, rowTask, TaskOf}
-use Rattle.rows.specs.RowsAfter.{RowsAfter, Asked, Promised}
+use Rattle.rows.specs.RowTask.{alone, placed, TaskOf}
+use Rattle.rows.specs.RowsAfter.{Asked, Promised}
 use Rattle.rows.specs.declared.Tally.{Tally}
 use Rattle.listing.specs.Tasks.{SummaryIs, SourceWords, Placing, SomePlacing, PlacedRows}
 use Rattle.listing.proofs.Behind.{front-read}

@@ -9,7 +9,6 @@ use lib.Seq.{sets}
 use Rattle.words.specs.Words.{_∈_, Term, var, con, Rule, DistinctVariables}
 use Rattle.words.specs.Summaries.{place}
 use Rattle.layout.specs.Numbers.{numberAt}
-use Rattle.layout.specs.RuleLayout.{Layout}
 use Rattle.layout.specs.Standing.{numberOf, TermAt}
 use Rattle.layout.proofs.Places.{nothing, place-some, place-in}
 use Rattle.layout.proofs.RulePlaces.{head-terms}

@@ -1,7 +1,7 @@
 -- The source of a summary's task: its head's places, then its body behind them.
-use mathlib.Core.Path.{_≡_, refl, sym, ap, ap₂, _∙_}
+use mathlib.Core.Path.{_≡_, refl, sym, ap, _∙_}
 use mathlib.Core.List.{List, [], _∷_, _++_, map, map-append}
-use Prim.Native.Nat.{ℕ, zero, suc, _+_, _*_, _-_, _<_, _≤_}
+use Prim.Native.Nat.{ℕ, zero, suc, _+_, _*_, _-_, _≤_}
 use native.Mathlib.Omega.{arith}
 use lib.ListN.{length, take, drop, replicate, length-append, length-map, length-replicate}
 use lib.Seq.{length-take-le}
@@ -16,7 +16,7 @@ use Rattle.rows.specs.RowTask.{alone, placed}
 use Rattle.rows.proofs.TableLaws.{words-append}
 use Rattle.listing.specs.Alone.{aloneWords}
 use Rattle.listing.specs.Tasks.{SummaryIs, SomeSummary, HeadSlots, SourceWords}
-use Rattle.listing.proofs.AloneLaws.{alone-long, alone-words}
+use Rattle.listing.proofs.AloneLaws.{alone-words}
 use Rattle.listing.proofs.Behind.{part-long, front-read, mid-long, behind}
 use Rattle.listing.proofs.SlotSteps.{heads-few}
 

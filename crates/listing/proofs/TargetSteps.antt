@@ -1,7 +1,7 @@
 -- The target of a question's task: its terms in order, then its body behind them.
-use mathlib.Core.Path.{_≡_, refl, sym, ap, ap₂, _∙_}
+use mathlib.Core.Path.{_≡_, sym, ap, _∙_}
 use mathlib.Core.List.{List, [], _++_, map}
-use Prim.Native.Nat.{ℕ, _+_, _*_, _-_, _<_, _≤_}
+use Prim.Native.Nat.{ℕ, _+_, _*_, _-_, _≤_}
 use native.Mathlib.Omega.{arith}
 use lib.ListN.{length, take, drop, length-append, length-map}
 use lib.Seq.{length-take-le}
@@ -16,7 +16,7 @@ use Rattle.wording.specs.Laid.{LaidFor, QuestionLaid}
 use Rattle.wording.specs.Promises.{BodyWords}
 use Rattle.wording.proofs.Stores.{front-length}
 use Rattle.wording.proofs.WordLaws.{words-length}
-use Rattle.rows.specs.RowTask.{alone, onto}
+use Rattle.rows.specs.RowTask.{alone}
 use Rattle.rows.proofs.TableLaws.{words-append}
 use Rattle.listing.specs.Alone.{aloneWords}
 use Rattle.listing.specs.Tasks.{TermsOf, TargetWords}

@@ -1,9 +1,9 @@
 -- The turn of one summary: what stands in the book for it, and what it adds to the table.
-use mathlib.Core.Path.{_≡_, refl, sym, ap, _∙_, subst}
+use mathlib.Core.Path.{_≡_, refl, sym, _∙_, subst}
 use mathlib.Core.Bool.{Bool, true, false}
 use mathlib.Core.Option.{some, none, Option·none-ne-some, Option·some-injective}
-use mathlib.Core.List.{List, _++_}
-use Prim.Native.Nat.{ℕ, zero, suc, _+_, _*_, _<_, _≤_}
+use mathlib.Core.List.{List}
+use Prim.Native.Nat.{ℕ, zero, suc, _+_, _*_, _≤_}
 use native.Mathlib.Omega.{arith}
 use lib.ListN.{length}
 use Rattle.words.specs.Words.{Rule}
@@ -17,7 +17,7 @@ use Rattle.layout.proofs.BookPasses.{book-loads, question-reads, summary-reads}
 use Rattle.rows.specs.RowsAfter.{mostRows, RowsAfter}
 use Rattle.rows.specs.declared.Tally.{Tally}
 use Rattle.listing.specs.Tasks.{SummaryIs, Placing, SomePlacing, PlacedRows}
-use Rattle.listing.specs.Turns.{HasSummary, SaysIn, OntoQuestion, Turn, TurnSays}
+use Rattle.listing.specs.Turns.{HasSummary, SaysIn, OntoQuestion, TurnSays}
 
 module _ {book : List ℕ} {i : ℕ} (has : HasSummary book i) where
   -- the summary there, in every value of the book

@@ -2,7 +2,7 @@
 use mathlib.Core.List.{List, [], _∷_, map}
 use Prim.Native.Nat.{ℕ, zero, suc}
 use Rattle.words.specs.Words.{Subgoal, itself}
-use Rattle.coding.specs.Code.{subgoalWords, wordsOf}
+use Rattle.coding.specs.Code.{wordsOf}
 use Rattle.rows.specs.RowTask.{headRelation}
 
 abbrev pub aloneOf : ℕ → Subgoal ℕ

@@ -7,7 +7,7 @@ use Prim.Native.Nat.{ℕ, suc, _<_, _≤_}
 use native.Mathlib.Omega.{arith}
 use native.Mathlib.Decide.{decLe}
 use lib.Dec.{ltb, ltb→lt, lt→ltb}
-use lib.ListN.{length, length-append}
+use lib.ListN.{length}
 use Rattle.words.specs.Words.{_∈_, Term, con, Subgoal, Rule, Listed, Yields}
 use Rattle.words.specs.Summaries.{place, Summaries, orNone, summary, SummaryRow}
 use Rattle.words.specs.Sound.{AllSafe}

@@ -1,4 +1,3 @@
-use borrow.Author.Needs.{needs}
 use Rattle.listing.proofs.AloneLaws.{word-head, word-term, word-none}
 use Rattle.listing.proofs.tasks.alone_word.Statement.{statement}
 use Rattle.listing.proofs.tasks.alone_word.Tie as tie
