@@ -27,7 +27,9 @@ pub fn is_in(book: &[u8], i: usize) -> bool
     requires { ⌜ HasSummary (now book) i ⌝ }
     ensures { λ r. ⌜ SaysIn (now (book .entry)) i r ⌝ }
 {
-    is_admitted(stamp_at(book, 1), stamp_at(book, i + 1))
+    let need = stamp_at(book, 1);
+    let stamp = stamp_at(book, i + 1);
+    is_admitted(need, stamp)
 }
 
 // The rows of one summary, behind those found before.
