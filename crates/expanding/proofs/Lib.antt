@@ -4,3 +4,4 @@ pub mod Spread
 pub mod Growing
 pub mod Beginnings
 pub mod Read
+pub mod SummaryRows

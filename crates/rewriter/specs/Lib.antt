@@ -1,1 +1,2 @@
 pub mod Picked
+pub mod Rewriting

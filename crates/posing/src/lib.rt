@@ -1,0 +1,45 @@
+// The task of choosing rows, posed for a sound book's question over all its summary rows.
+ghost use Rattle.posing.specs.Asked.{Asked, RowsChosen};
+
+mod dominance; // which rows dominate which
+
+use books::parts::part_of;
+use builders::bodies::slot_words;
+use builders::heads::head_bindings;
+use choosing::Chosen;
+use choosing::choose;
+use dominance::dominance;
+use expanding::all::expand;
+
+// The rows are chosen, given the words of their uses.
+fn choose_onto(book: &[u8], rows: &[u64], n: usize, target: &[u64], own: &[u8]) -> Chosen {
+    let question = part_of(book, 1);
+    let mut source = [0u64; 108];
+    let mut widths = [0u8; 12];
+    let k = slot_words(question, part_of(book, 0), &mut source, &mut widths);
+    let lasts = [0u8; 12];
+    let b = head_bindings(question);
+    let dom = dominance(book, rows, n, target);
+    choose(
+        &source[..9 * k],
+        &widths[..k],
+        &lasts[..k],
+        target,
+        own,
+        b,
+        &dom,
+        n,
+    )
+}
+
+// The first of the shortest equivalent lists of the rows, by their numbers; or that there is none.
+pub fn choose_rows(book: &[u8], rows: &[u64], n: usize) -> Chosen
+    requires { ⌜ Asked (now book) (now rows) n ⌝ }
+    ensures { λ r. ⌜ RowsChosen (now (book .entry)) (now (rows .entry)) n r ⌝ }
+{
+    let mut target = [0u64; 4608];
+    let mut own = [0u8; 512];
+    let mut inner = [0u8; 512];
+    let goals = expand(book, rows, n, &mut target, &mut own, &mut inner);
+    choose_onto(book, rows, n, &target[..9 * goals], &own[..goals])
+}

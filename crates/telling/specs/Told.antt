@@ -1,0 +1,44 @@
+-- What is promised of the two parts of the witness, of every value of the book and every list whose words the rows are.
+use mathlib.Core.Path.{_≡_}
+use mathlib.Core.List.{List}
+use Prim.Native.Nat.{ℕ, _≤_}
+use lib.ListN.{length}
+use lib.Seq.{sets}
+use Rattle.words.specs.Words.{Term, Subgoal}
+use Rattle.words.specs.Summaries.{rewriting, Equivalent}
+use Rattle.words.specs.Answer.{FirstThere, FirstBack}
+use Rattle.words.specs.Book.{Book, admittedOf}
+use Rattle.expanding.specs.Given.{RowsOf}
+
+-- So many rows of a sound book, and they are equivalent to its question.
+pub record TellsOf (book rows : List ℕ) (k : ℕ) (b : Book) (l : List (Subgoal (Term ℕ))) : Type 0 where
+  pub rows-of : RowsOf book rows k b l
+  pub few : k ≤ 12
+  pub equivalent : Equivalent (admittedOf b) (b .question) (rewriting (b .question) l)
+
+pub record Tells (book rows : List ℕ) (k : ℕ) : Type 0 where
+  pub value : Book
+  pub list : List (Subgoal (Term ℕ))
+  pub is : TellsOf book rows k value list
+
+-- The first part, at the front of an area; the bytes behind it stay.
+pub record ThereOf (b : Book) (l : List (Subgoal (Term ℕ))) (before after : List ℕ) (n : ℕ) : Type 0 where
+  pub bytes : List ℕ
+  pub first : FirstThere (admittedOf b) (b .question) (rewriting (b .question) l) bytes
+  pub long : n ≡ length bytes
+  pub few : n ≤ 24
+  pub written : after ≡ sets before 0 bytes
+
+pub record ThereTold (book rows : List ℕ) (k : ℕ) (before after : List ℕ) (n : ℕ) : Type 0 where
+  pub is : (b : Book) (l : List (Subgoal (Term ℕ))) → TellsOf book rows k b l → ThereOf b l before after n
+
+-- The second part, from `at` on.
+pub record BackOf (b : Book) (l : List (Subgoal (Term ℕ))) (at : ℕ) (before after : List ℕ) (n : ℕ) : Type 0 where
+  pub bytes : List ℕ
+  pub first : FirstBack (admittedOf b) (b .question) (rewriting (b .question) l) bytes
+  pub long : n ≡ length bytes
+  pub few : n ≤ 96
+  pub written : after ≡ sets before at bytes
+
+pub record BackTold (book rows : List ℕ) (k at : ℕ) (before after : List ℕ) (n : ℕ) : Type 0 where
+  pub is : (b : Book) (l : List (Subgoal (Term ℕ))) → TellsOf book rows k b l → BackOf b l at before after n

@@ -1,0 +1,41 @@
+// "per question subgoal, two bytes: rewriting subgoal and subgoal within that summary".
+ghost use Prim.Native.Nat.{_≤_};
+ghost use lib.ListN.{length};
+ghost use Rattle.telling.specs.Told.{Tells, ThereTold};
+use books::parts::part_of;
+use builders::bodies::slot_words;
+use builders::heads::head_bindings;
+use expanding::all::expand;
+use placing::first_places;
+use writing::witness::put_pairs;
+
+// The question's subgoals placed on the uses' subgoals.
+fn there_onto(book: &[u8], target: &[u64], own: &[u8], inner: &[u8], out: &mut [u8]) -> usize {
+    let question = part_of(book, 1);
+    let mut source = [0u64; 108];
+    let mut widths = [0u8; 12];
+    let n = slot_words(question, part_of(book, 0), &mut source, &mut widths);
+    let lasts = [0u8; 12];
+    let b = head_bindings(question);
+    let places = first_places(&source[..9 * n], &widths[..n], &lasts[..n], target, own, b);
+    put_pairs(out, &places.ks, own, inner, n);
+    2 * n
+}
+
+// The first part of the witness of k rows that are equivalent to the question. Returns its length.
+pub fn put_there(book: &[u8], rows: &[u64], k: usize, out: &mut [u8]) -> usize
+    requires { ⌜ Tells (now book) (now rows) k × (24 ≤ length (now out)) ⌝ }
+    ensures { λ r. ⌜ ThereTold (now (book .entry)) (now (rows .entry)) k (now (out .entry)) (now (out .exit)) r ⌝ }
+{
+    let mut target = [0u64; 864];
+    let mut own = [0u8; 96];
+    let mut inner = [0u8; 96];
+    let goals = expand(book, rows, k, &mut target, &mut own, &mut inner);
+    there_onto(
+        book,
+        &target[..9 * goals],
+        &own[..goals],
+        &inner[..goals],
+        out,
+    )
+}
