@@ -2,9 +2,9 @@
 ghost use Prim.Native.Nat.{_+_, _≤_};
 ghost use lib.ListN.{length};
 ghost use Rattle.telling.specs.Told.{Tells, BackTold};
-use books::parts::part_of;
-use builders::bodies::term_words;
-use builders::heads::head_bindings;
+ghost use Rattle.telling.specs.Steps.{From, FromTold};
+use asking::question_bindings;
+use asking::question_target;
 use expanding::all::expand_back;
 use placing::first_places;
 use writing::witness::put_places;
@@ -17,13 +17,14 @@ fn back_from(
     lasts: &[u8],
     out: &mut [u8],
     at: usize,
-) -> usize {
-    let question = part_of(book, 1);
+) -> usize
+    requires { ⌜ From (now book) (now source) (now widths) (now lasts) × (at + 96 ≤ length (now out)) ⌝ }
+    ensures { λ r. ⌜ FromTold (now (book .entry)) (now (source .entry)) (now (widths .entry)) (now (lasts .entry)) at (now (out .entry)) (now (out .exit)) r ⌝ }
+{
     let mut target = [0u64; 108];
-    let mut wide = [0u8; 12];
-    let n = term_words(question, part_of(book, 0), &mut target, &mut wide);
+    let n = question_target(book, &mut target);
     let own = [0u8; 12];
-    let b = head_bindings(question);
+    let b = question_bindings(book);
     let places = first_places(source, widths, lasts, &target[..9 * n], &own[..n], b);
     let goals = widths.len();
     put_places(out, at, &places.ks, goals);

@@ -2,22 +2,31 @@
 ghost use Prim.Native.Nat.{_≤_};
 ghost use lib.ListN.{length};
 ghost use Rattle.telling.specs.Told.{Tells, ThereTold};
-use books::parts::part_of;
-use builders::bodies::slot_words;
-use builders::heads::head_bindings;
+ghost use Rattle.telling.specs.Steps.{Onto, OntoTold};
+use asking::question_bindings;
+use asking::question_source;
 use expanding::all::expand;
 use placing::first_places;
 use writing::witness::put_pairs;
 
 // The question's subgoals placed on the uses' subgoals.
-fn there_onto(book: &[u8], target: &[u64], own: &[u8], inner: &[u8], out: &mut [u8]) -> usize {
-    let question = part_of(book, 1);
+fn there_onto(book: &[u8], target: &[u64], own: &[u8], inner: &[u8], out: &mut [u8]) -> usize
+    requires { ⌜ Onto (now book) (now target) (now own) (now inner) × (24 ≤ length (now out)) ⌝ }
+    ensures { λ r. ⌜ OntoTold (now (book .entry)) (now (target .entry)) (now (own .entry)) (now (inner .entry)) (now (out .entry)) (now (out .exit)) r ⌝ }
+{
     let mut source = [0u64; 108];
     let mut widths = [0u8; 12];
-    let n = slot_words(question, part_of(book, 0), &mut source, &mut widths);
+    let n = question_source(book, &mut source, &mut widths);
     let lasts = [0u8; 12];
-    let b = head_bindings(question);
-    let places = first_places(&source[..9 * n], &widths[..n], &lasts[..n], target, own, b);
+    let b = question_bindings(book);
+    let places = first_places(
+        &source[..9 * n],
+        &widths[..n],
+        &lasts[..n],
+        target,
+        own,
+        b,
+    );
     put_pairs(out, &places.ks, own, inner, n);
     2 * n
 }
