@@ -1,3 +1,4 @@
 pub mod Found
 pub mod ThereLaws
 pub mod BackLaws
+pub mod Expanded
