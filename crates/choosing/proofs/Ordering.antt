@@ -1,6 +1,6 @@
 -- The subgoals in another order are the same subgoals, and their words and widths are theirs.
 use mathlib.Core.Path.{_≡_, refl, sym, ap, _∙_, subst}
-use mathlib.Core.List.{List, [], _∷_, map, Memᴰ·of-map}
+use mathlib.Core.List.{List, [], _∷_}
 use Prim.Native.Nat.{ℕ, zero, suc, _+_, _*_, _/_, _%_, _<_, _≤_}
 use native.Mathlib.Omega.{arith}
 use native.Mathlib.Decide.{ℕ-discrete}
@@ -43,7 +43,11 @@ module _ {n : ℕ} {order : List ℕ} (o : Orders n order) (i j : ℕ) (hi : i <
   elsewhere k f g = getD-set-other (set order i (getD order j 0)) j k (getD order i 0) 0 g ∙ getD-set-other order i k (getD order j 0) 0 f
 
   pub orders-exchanged : Orders n exchanged
-  orders-exchanged = record { long = length-set (set order i (getD order j 0)) j (getD order i 0) ∙ length-set order i (getD order j 0) ∙ o .long; within = λ k h. within k h (ℕ-discrete k i) (ℕ-discrete k j); all = λ k h. let w = o .all k h in all k (w .0) (w .1) (w .2) (ℕ-discrete (w .0) i) (ℕ-discrete (w .0) j) }
+  orders-exchanged = record {
+    long = length-set (set order i (getD order j 0)) j (getD order i 0) ∙ length-set order i (getD order j 0) ∙ o .long;
+    within = λ k h. within k h (ℕ-discrete k i) (ℕ-discrete k j);
+    all = λ k h. (let w = o .all k h in all k (w .0) (w .1) (w .2) (ℕ-discrete (w .0) i) (ℕ-discrete (w .0) j));
+  }
     where
       within : (k : ℕ) → k < n → Dec (k ≡ i) → Dec (k ≡ j) → getD exchanged k 0 < n
       within k h (yes e) d = omega (arith, ap (λ z. getD exchanged z 0) e, at-first, o .within j hj)

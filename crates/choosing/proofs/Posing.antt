@@ -4,7 +4,7 @@ use mathlib.Core.List.{List}
 use Prim.Native.Nat.{ℕ, _*_, _≤_}
 use native.Mathlib.Omega.{arith}
 use lib.ListN.{length, take, length-map}
-use Rattle.words.specs.Words.{Rule, Term, Subgoal}
+use Rattle.words.specs.Words.{Rule}
 use Rattle.words.specs.Summaries.{Summaries}
 use Rattle.frame.specs.Numbered.{Rows}
 use Rattle.coding.specs.Code.{slotCode, wordsOf, widthsOf}
@@ -22,7 +22,7 @@ module _ {source widths lasts target own b : List ℕ} {n : ℕ} where
     goals-are : length widths ≡ length (p .body)
     goals-are = ap (λ t. length (t .widths)) (p .words) ∙ length-map (p .body) (λ g. length (g .terms))
 
-    pub goals-few : length widths ≤ 12
+    goals-few : length widths ≤ 12
     goals-few = omega (arith, goals-are, p .same .long, p .bounds .question .few)
 
   pub posed-lined : Posed (posed source widths lasts target own) b n → Lined source widths
