@@ -2,3 +2,4 @@ pub mod Posed
 pub mod Chosen
 pub mod Pruning
 pub mod Passing
+pub mod Ordering
