@@ -8,19 +8,20 @@ use native.Mathlib.Omega.{arith}
 use native.Mathlib.Decide.{ℕ-discrete, decLt}
 use native.Mathlib.Numerals.{add-one}
 use lib.ListN.{length, getD, set, replicate}
-use Rattle.bits.specs.Sets.{Has}
+use Rattle.bits.specs.Sets.{Has, with}
 use Rattle.words.specs.Order.{ListBefore, First}
 use Rattle.placing.specs.Task.{Task, goals, targets, targetRelation, sourceRelation, widthOf, lastOf, rowOf, Agrees, Linked, Completes, done, put, Extends}
-use Rattle.placing.specs.Taking.{Enters, Affords, Open}
+use Rattle.placing.specs.Taking.{Enters, leftAfter, Affords, Open}
 use Rattle.placing.specs.Mapped.{laid}
 use Rattle.placing.specs.Answer.{AgreesOn, FromOn, Completion, Afforded, Failed, Answer}
-use Rattle.placing.specs.Steps.{Opened, Entering, Settled, entering, seeing, carrying, found, failed}
+use Rattle.placing.specs.Steps.{Opened, Entering, Hopeless, Settled, entering, seeing, carrying, found, failed}
 use Rattle.placing.specs.declared.Reasons.{Reasons}
 use Rattle.placing.specs.declared.Placed.{Placed}
 use Rattle.placing.specs.declared.Rows.{Rows}
 use Rattle.placing.specs.declared.Entered.{Entered}
 use Rattle.placing.proofs.Guess.{Guess}
 use Rattle.placing.proofs.Open.{open-with, open-tail, affords-open}
+use Rattle.placing.proofs.Taken.{affords-free}
 use Rattle.placing.proofs.Laid.{laid-none, laid-put}
 use Rattle.placing.proofs.Crossing.{through, carry, before}
 use Rattle.placing.proofs.Refuted.{Way, Refuted, from-zero}
@@ -58,19 +59,24 @@ module _ (p : Task) (at : ℕ) (b : List ℕ) (from : ℕ) (rows : Rows) (more :
 
   module _ (k : ℕ) (g h : List ℕ) (new : ℕ) (c : Guess p b at k (widthOf p at) g new) (o : Opened (lastOf p at) g h) where
     -- the jump: whatever the target, the rest fails for the same reasons
-    jump : (less : Reasons) → Failed p (suc at) h 0 (entering rows (rowOf p k)) less → less .short ≡ false → ((x : ℕ) → Has (seeing less (lastOf p at) .slots) x → Has new x → ⊥) → Failed p at b from rows (seeing less (lastOf p at))
-    jump less f n m = record { never = never }
+    jump : (less : Reasons) → Failed p (suc at) h 0 (entering rows (rowOf p k)) less → (free : Bool) → (free ≡ true → Has (rows .used) (rowOf p k)) → Hopeless (seeing less (lastOf p at)) new free → Failed p at b from rows (seeing less (lastOf p at))
+    jump less f free u m = record { never = never }
       where
+        -- the rows suffice no more than they did here, where the guess took none
+        suffice : (j : ℕ) (l : List ℕ) → (free ≡ true) ⊎ (less .short ≡ false) → (less .short ≡ true → Affords p (rows .used) (rows .may) (rows .left) (j ∷ l)) → less .short ≡ true → Affords p (with (rows .used) (rowOf p k)) (rows .may) (leftAfter (rows .used) (rows .left) (rowOf p k)) l
+        suffice j l (inl e) d y = affords-free p (rows .may) (rows .used) (rows .left) (rowOf p k) j l (u e) (d y)
+        suffice j l (inr e) d y = absurd (true≢false (sym y ∙ e))
+
         never : (v : ℕ → ℕ) (l : List ℕ) → AgreesOn b (seeing less (lastOf p at) .slots) v → FromOn from l → Completes p (goals p - at) at v l → Open p (rows .used) (rows .may) l → (less .short ≡ true → Affords p (rows .used) (rows .may) (rows .left) l) → ⊥
         never v l a t q i d =
             let s = step v l q in
             f .never (s .w) (s .ks)
             (carry p at g h o less v (s .w) (s .linked) (λ x j y. elim (ℕ-discrete (getD b x 0) 0) [
-              | yes z ↦ absurd (m x j (c .noted x y z))
+              | yes z ↦ absurd (m .apart x j (c .noted x y z))
               | no z ↦ a x j z ∙ sym (c .keeps x z)
             ]))
             (from-zero (s .ks)) (s .rest) (open-with p (rows .used) (rows .may) (rowOf p k) (s .ks) (open-tail p (rows .used) (rows .may) (s .k) (s .ks) (rw (s .is) at i)))
-            (λ y. absurd (true≢false (sym y ∙ n)))
+            (suffice (s .k) (s .ks) (m .rows) (λ y. rw (s .is) at (d y)))
 
     -- found below: the first places
     module _ (why : Reasons) (i : k < targets p) (fk : from ≤ k) (rel : targetRelation p k ≡ sourceRelation p at) (e : Enters (rows .used) (rows .may) (rows .left) (rowOf p k)) (ref : Refuted p at b from rows why k) (l : List ℕ) (f : First (Afforded p (suc at) h 0 (entering rows (rowOf p k))) (ListBefore _<_) l) where
@@ -129,12 +135,13 @@ module _ (p : Task) (at : ℕ) (b : List ℕ) (from : ℕ) (rows : Rows) (more :
       got : below .ok ≡ true → (l : List ℕ) × (set (below .ks) at k ≡ laid at l) × First (Afforded p at b from rows) (ListBefore _<_) l
       got y = let f = a .found y in (k ∷ f .0, ap (λ r. set r at k) (f .1) ∙ laid-put at k (f .0), first-here why i fk rel e ref (f .0) (f .2))
 
-      lost : below .ok ≡ false → (below .ok ≡ true) ⊎ ((below .why .short ≡ false) × ((x : ℕ) → Has (seeing (below .why) (lastOf p at) .slots) x → Has new x → ⊥)) → Failed p at b from rows (seeing (below .why) (lastOf p at))
-      lost n (inl y) = absurd (true≢false (sym y ∙ n))
-      lost n (inr y) = jump (below .why) (a .none n) (y .0) (y .1)
+      module _ (free : Bool) (u : free ≡ true → Has (rows .used) (rowOf p k)) where
+        lost : below .ok ≡ false → (below .ok ≡ true) ⊎ Hopeless (seeing (below .why) (lastOf p at)) new free → Failed p at b from rows (seeing (below .why) (lastOf p at))
+        lost n (inl y) = absurd (true≢false (sym y ∙ n))
+        lost n (inr y) = jump (below .why) (a .none n) free u y
 
-      pub answer-settled : (r : Placed) → r ≡ carrying below at k (lastOf p at) → (s : Bool) → Settled (r .ok) (r .why) new s → s ≡ true → Answer p at b from rows r
-      answer-settled r q s c t = rw q (record { found = got; none = λ n. lost n ((rw q at c) .exactly .0 t) })
+        pub answer-settled : (r : Placed) → r ≡ carrying below at k (lastOf p at) → (s : Bool) → Settled (r .ok) (r .why) new free s → s ≡ true → Answer p at b from rows r
+        answer-settled r q s c t = rw q (record { found = got; none = λ n. lost n ((rw q at c) .exactly .0 t) })
 
 -- the answer below, in the words of this subgoal
 pub answer-below : (p : Task) (at : ℕ) (h : List ℕ) (rows : Rows) (k : ℕ) (e : Entered) → Entering rows (rowOf p k) e → (r : Placed) → Answer p (at + 1) h 0 (e .rows) r → Answer p (suc at) h 0 (entering rows (rowOf p k)) r

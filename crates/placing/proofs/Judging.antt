@@ -10,7 +10,7 @@ use borrow.Author.Tests.{eq-eqb, ne-eqb, not-true}
 use Rattle.bits.specs.Sets.{Has, has, with, below32, Meets}
 use Rattle.bits.proofs.Laws.{has-true, true-has, low-has}
 use Rattle.placing.specs.Taking.{Enters, leftAfter}
-use Rattle.placing.specs.Steps.{joining, seeing, Settled, rowsOf, entryOf, Entering}
+use Rattle.placing.specs.Steps.{shorting, joining, seeing, Hopeless, Settled, rowsOf, entryOf, Entering}
 use Rattle.placing.specs.declared.Reasons.{Reasons}
 use Rattle.placing.specs.declared.Rows.{Rows}
 use Rattle.placing.specs.declared.Entered.{Entered}
@@ -24,35 +24,49 @@ seeing-cut why last slots f e = rw (ne-eqb last 0 f, e)
 pub joining-short : (why more : Reasons) (slots : ℕ) (short : Bool) → slots ≡ bitOr (why .slots) (more .slots) → short ≡ (why .short || more .short) → _≡_ {A = Reasons} record { slots = slots; short = short } (joining why more)
 joining-short why more slots short e f = λ i. record { slots = e i; short = f i }
 
-pub settled-found : (ok : Bool) (why : Reasons) (new : ℕ) → ok ≡ true → Settled ok why new true
-settled-found ok why new e = record { exactly = (λ f. inl e, λ f. refl) }
+pub shorting-as : (why : Reasons) (allowed : Bool) → allowed ≡ true → _≡_ {A = Reasons} record { slots = why .slots; short = true } (shorting why allowed)
+shorting-as why allowed e = rw e
 
-pub settled-short : (ok : Bool) (why : Reasons) (new : ℕ) → ok ≡ false → why .short ≡ true → Settled ok why new false
-settled-short ok why new e f = record { exactly = (λ z. absurd (false≢true z), λ c. absurd (neither c)) }
-  where
-    neither : (ok ≡ true) ⊎ ((why .short ≡ false) × ((x : ℕ) → Has (why .slots) x → Has new x → ⊥)) → ⊥
-    neither (inl z) = true≢false (sym z ∙ e)
-    neither (inr z) = true≢false (sym f ∙ z .0)
+pub shorting-none : (why : Reasons) (allowed : Bool) → allowed ≡ false → why ≡ shorting why allowed
+shorting-none why allowed e = rw e
 
-pub settled-meets : (ok : Bool) (why : Reasons) (new : ℕ) (m : Bool) → ok ≡ false → why .short ≡ false → Meets (why .slots) new m → Settled ok why new (not m)
-settled-meets ok why new m e f s = record { exactly = (λ z. inr (f, s .exactly .0 (not-true m z)), λ c. ap not (s .exactly .1 (apart c))) }
-  where
-    apart : (ok ≡ true) ⊎ ((why .short ≡ false) × ((x : ℕ) → Has (why .slots) x → Has new x → ⊥)) → (x : ℕ) → Has (why .slots) x → Has new x → ⊥
-    apart (inl z) = absurd (true≢false (sym z ∙ e))
-    apart (inr z) = z .1
+module _ (ok : Bool) (why : Reasons) (new : ℕ) (free : Bool) where
+  pub settled-found : ok ≡ true → Settled ok why new free true
+  settled-found e = record { exactly = (λ f. inl e, λ f. refl) }
+
+  module _ (out : ok ≡ false) where
+    -- what is not found is settled just if it is hopeless
+    hopeless : (ok ≡ true) ⊎ Hopeless why new free → Hopeless why new free
+    hopeless (inl e) = absurd (true≢false (sym e ∙ out))
+    hopeless (inr h) = h
+
+    module _ (m : Bool) (s : Meets (why .slots) new m) where
+      pub settled-meets : m ≡ true → Settled ok why new free false
+      settled-meets e = record { exactly = (λ z. absurd (false≢true z), λ c. absurd (true≢false (sym e ∙ s .exactly .1 (hopeless c .apart)))) }
+
+      module _ (apart : m ≡ false) where
+        pub settled-free : free ≡ true → Settled ok why new free true
+        settled-free e = record { exactly = (λ z. inr (record { apart = s .exactly .0 apart; rows = inl e }), λ c. refl) }
+
+        pub settled-rows : free ≡ false → Settled ok why new free (not (why .short))
+        settled-rows e = record { exactly = (λ z. inr (record { apart = s .exactly .0 apart; rows = inr (not-true (why .short) z) }), λ c. ap not (long (hopeless c .rows))) }
+          where
+            long : (free ≡ true) ⊎ (why .short ≡ false) → why .short ≡ false
+            long (inl f) = absurd (true≢false (sym f ∙ e))
+            long (inr f) = f
 
 -- what is not settled is not found
-pub unsettled : (ok : Bool) (why : Reasons) (new : ℕ) (s : Bool) → Settled ok why new s → s ≡ false → ok ≡ false
-unsettled true why new s c e = absurd (true≢false (sym (c .exactly .1 (inl refl)) ∙ e))
-unsettled false why new s c e = refl
+pub unsettled : (ok : Bool) (why : Reasons) (new : ℕ) (free s : Bool) → Settled ok why new free s → s ≡ false → ok ≡ false
+unsettled true why new free s c e = absurd (true≢false (sym (c .exactly .1 (inl refl)) ∙ e))
+unsettled false why new free s c e = refl
 
 -- the parts of an entry by their values
-pub entry-as : (a b afforded : Bool) (u v may left : ℕ) (rows : Rows) (e : Entered) → e ≡ entryOf a afforded rows → rows ≡ rowsOf u may left → u ≡ v → a ≡ b → e ≡ entryOf b afforded (rowsOf v may left)
-entry-as a b afforded u v may left rows e q r s t = rw (q, r, s, t)
+pub entry-as : (a b c d free : Bool) (u v may left : ℕ) (rows : Rows) (e : Entered) → e ≡ entryOf a c free rows → rows ≡ rowsOf u may left → u ≡ v → a ≡ b → c ≡ d → e ≡ entryOf b d free (rowsOf v may left)
+entry-as a b c d free u v may left rows e q r s t y = rw (q, r, s, t, y)
 
 module _ (rows : Rows) (row : ℕ) (e : Entered) where
-  pub enter-free : has (rows .used) row ≡ true → e ≡ entryOf true true (rowsOf (with (rows .used) row) (rows .may) (rows .left)) → Entering rows row e
-  enter-free h q = rw q (record { allowed = (λ z. inl u, λ z. refl); afforded = λ z. (λ y. inl u, λ y. refl); after = rw h })
+  pub enter-free : has (rows .used) row ≡ true → e ≡ entryOf true true true (rowsOf (with (rows .used) row) (rows .may) (rows .left)) → Entering rows row e
+  enter-free h q = rw q (record { allowed = (λ z. inl u, λ z. refl); afforded = (λ z. inl u, λ z. refl); free = (λ z. u, λ z. refl); after = rw h })
     where
       u : Has (rows .used) row
       u = has-true (rows .used) row h
@@ -68,12 +82,19 @@ module _ (rows : Rows) (row : ℕ) (e : Entered) where
         back (inl h) = absurd (unused h)
         back (inr h) = true-has (rows .may) row h
 
-    pub enter-none : rows .left ≡ 0 → e ≡ entryOf (has (rows .may) row) false (rowsOf (with (rows .used) row) (rows .may) 0) → Entering rows row e
-    enter-none z q = rw q (record { allowed = may; afforded = λ e. (λ y. absurd (false≢true y), λ y. absurd (neither y)); after = rw (out, z) })
+    paid : (false ≡ true) ↔ Has (rows .used) row
+    paid = (λ e. absurd (false≢true e), λ h. absurd (unused h))
+
+    pub enter-none : rows .left ≡ 0 → e ≡ entryOf (has (rows .may) row) false false (rowsOf (with (rows .used) row) (rows .may) 0) → Entering rows row e
+    enter-none z q = rw q (record { allowed = may; afforded = (λ y. absurd (false≢true y), λ y. absurd (neither y)); free = paid; after = rw (out, z) })
       where
         neither : Enters (rows .used) (rows .may) (rows .left) row → ⊥
         neither (inl h) = unused h
         neither (inr h) = omega (arith, h .1)
 
-    pub enter-paid : (rows .left ≡ 0 → ⊥) → e ≡ entryOf (has (rows .may) row) true (rowsOf (with (rows .used) row) (rows .may) (rows .left - 1)) → Entering rows row e
-    enter-paid f q = rw q (record { allowed = may; afforded = λ h. (λ y. inr (has-true (rows .may) row h, omega arith), λ y. refl); after = rw out })
+    pub enter-paid : (rows .left ≡ 0 → ⊥) → e ≡ entryOf (has (rows .may) row) (has (rows .may) row) false (rowsOf (with (rows .used) row) (rows .may) (rows .left - 1)) → Entering rows row e
+    enter-paid f q = rw q (record { allowed = may; afforded = (λ h. inr (has-true (rows .may) row h, omega arith), taken); free = paid; after = rw out })
+      where
+        taken : Enters (rows .used) (rows .may) (rows .left) row → has (rows .may) row ≡ true
+        taken (inl h) = absurd (unused h)
+        taken (inr h) = true-has (rows .may) row (h .0)

@@ -63,13 +63,11 @@ module _ (p : Task) (at : ℕ) (b : List ℕ) (from : ℕ) (rows : Rows) where
   refuted-relation why k f = refuted-more why why k (record { slots = λ x h. h; short = λ s. s }) (λ c. f (c .agrees .relation))
 
   module _ (k : ℕ) (e : Entered) (n : Entering rows (rowOf p k) e) where
-    -- the row is neither in use nor to be taken
-    pub refuted-barred : (why : Reasons) → e .allowed ≡ false → Refuted p at b from rows why k → Refuted p at b from rows why (k + 1)
-    refuted-barred why f = refuted-more why why k (record { slots = λ x h. h; short = λ s. s }) (λ c. true≢false (sym (n .allowed .1 (c .allowed k (List·Memᴰ·head refl))) ∙ f))
-
-    -- no more rows are left
-    pub refuted-short : (why : Reasons) → e .allowed ≡ true → e .afforded ≡ false → Refuted p at b from rows why k → Refuted p at b from rows (shorting why) (k + 1)
-    refuted-short why a f = refuted-more why (shorting why) k (record { slots = λ x h. h; short = λ s. refl }) (λ c. true≢false (sym (n .afforded a .1 (c .affords refl .0)) ∙ f))
+    -- the row is neither in use nor to be taken, or no more rows are left
+    pub refuted-row : (why : Reasons) → e .afforded ≡ false → Refuted p at b from rows why k → Refuted p at b from rows (shorting why (e .allowed)) (k + 1)
+    refuted-row why f = refuted-more why (shorting why (e .allowed)) k
+        (record { slots = λ x h. h; short = λ s. ap (λ b. e .allowed || b) s ∙ or-true (e .allowed) })
+        (λ c. true≢false (sym (n .afforded .1 (c .affords (ap (λ b. b || why .short) (n .allowed .1 (c .allowed k (List·Memᴰ·head refl)))) .0)) ∙ f))
 
   -- what a guess bound is forced, or known by the reasons
   module _ (k a : ℕ) (g : List ℕ) (new : ℕ) (c : Guess p b at k a g new) where

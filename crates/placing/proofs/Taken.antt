@@ -103,3 +103,14 @@ module _ (p : Task) (may : ℕ) where
   pub affords-rows : (used left : ℕ) (l : List ℕ) → Affords p used may left l → InRows p used may left l
   affords-rows used left [] a = record { taken = []; few = omega arith; allowed = λ j m. absurd (List·Memᴰ·not-nil m); each = λ j m. absurd (List·Memᴰ·not-nil m) }
   affords-rows used left (k ∷ l) a = rows-cons p used may left k l (a .0) (affords-rows (with used (rowOf p k)) (leftAfter used left (rowOf p k)) l (a .1))
+
+  -- the targets after the first, where another row is in use already: it costs nothing
+  pub affords-free : (used left row k : ℕ) (l : List ℕ) → Has used row → Affords p used may left (k ∷ l) → Affords p (with used row) may (leftAfter used left row) l
+  affords-free used left row k l h a = rows-affords (with used row) (leftAfter used left row) l (free (affords-rows used left (k ∷ l) a))
+    where
+      old : (r : InRows p used may left (k ∷ l)) (j : ℕ) → Has used j ⊎ (j ∈ r .taken) → Has (with used row) j ⊎ (j ∈ r .taken)
+      old r j (inl u) = inl (with-old used row j u)
+      old r j (inr m) = inr m
+
+      free : InRows p used may left (k ∷ l) → InRows p (with used row) may (leftAfter used left row) l
+      free r = record { taken = r .taken; few = omega (arith, r .few, left-free used left row h); allowed = r .allowed; each = λ j m. old r (rowOf p j) (r .each j (List·Memᴰ·tail m)) }

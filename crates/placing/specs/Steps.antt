@@ -32,8 +32,8 @@ pub record Opened (last : ℕ) (g h : List ℕ) : Type 0 where
 abbrev pub rowsOf : ℕ → ℕ → ℕ → Rows
 rowsOf used may left = record { used = used; may = may; left = left }
 
-abbrev pub entryOf : Bool → Bool → Rows → Entered
-entryOf allowed afforded rows = record { allowed = allowed; afforded = afforded; rows = rows }
+abbrev pub entryOf : Bool → Bool → Bool → Rows → Entered
+entryOf allowed afforded free rows = record { allowed = allowed; afforded = afforded; free = free; rows = rows }
 
 -- the rows once a row is entered
 abbrev pub entering : Rows → ℕ → Rows
@@ -41,14 +41,16 @@ entering rows row = rowsOf (with (rows .used) row) (rows .may) (leftAfter (rows 
 
 pub record Entering (rows : Rows) (row : ℕ) (e : Entered) : Type 0 where
   pub allowed : (e .allowed ≡ true) ↔ (Has (rows .used) row ⊎ Has (rows .may) row)
-  pub afforded : e .allowed ≡ true → (e .afforded ≡ true) ↔ Enters (rows .used) (rows .may) (rows .left) row
+  pub afforded : (e .afforded ≡ true) ↔ Enters (rows .used) (rows .may) (rows .left) row
+  pub free : (e .free ≡ true) ↔ Has (rows .used) row
   pub after : e .rows ≡ entering rows row
 
 abbrev pub blaming : Reasons → ℕ → Reasons
 blaming why x = record { slots = noting (why .slots) x; short = why .short }
 
-abbrev pub shorting : Reasons → Reasons
-shorting why = record { slots = why .slots; short = true }
+-- a row was refused: if it is an allowed one, for want of more
+abbrev pub shorting : Reasons → Bool → Reasons
+shorting why allowed = record { slots = why .slots; short = allowed || why .short }
 
 abbrev pub joining : Reasons → Reasons → Reasons
 joining why more = record { slots = bitOr (why .slots) (more .slots); short = why .short || more .short }
@@ -59,9 +61,14 @@ seeing why last = record { slots = cond (eqb last 0) (why .slots) (below32 (why 
 abbrev pub carrying : Placed → ℕ → ℕ → ℕ → Placed
 carrying below at k last = record { ok = below .ok; why = seeing (below .why) last; ks = set (below .ks) at k }
 
--- the first places are found; or rows were not short, and no slot of the set `new` is to blame
-pub record Settled (ok : Bool) (why : Reasons) (new : ℕ) (answer : Bool) : Type 0 where
-  pub exactly : (answer ≡ true) ↔ ((ok ≡ true) ⊎ ((why .short ≡ false) × ((x : ℕ) → Has (why .slots) x → Has new x → ⊥)))
+-- no slot of the set `new` is to blame, and rows were not short or the guess took none
+pub record Hopeless (why : Reasons) (new : ℕ) (free : Bool) : Type 0 where
+  pub apart : (x : ℕ) → Has (why .slots) x → Has new x → ⊥
+  pub rows : (free ≡ true) ⊎ (why .short ≡ false)
+
+-- the first places are found, or no other target helps
+pub record Settled (ok : Bool) (why : Reasons) (new : ℕ) (free : Bool) (answer : Bool) : Type 0 where
+  pub exactly : (answer ≡ true) ↔ ((ok ≡ true) ⊎ Hopeless why new free)
 
 abbrev pub noReasons : Reasons
 noReasons = record { slots = 0; short = false }

@@ -34,10 +34,11 @@ struct Rows {
     left: usize,
 }
 
-// Of a row: whether it is in use or may be taken, whether the rows left suffice, and the rows once it is entered.
+// Of a row: whether it is in use or may be taken, whether the rows left suffice for that, whether it was in use, and the rows once it is entered.
 struct Entered {
     allowed: bool,
     afforded: bool,
+    free: bool,
     rows: Rows,
 }
 
@@ -102,12 +103,13 @@ fn rows_of(used: u64, may: u64, left: usize) -> Rows
     Rows { used, may, left }
 }
 
-fn entry(allowed: bool, afforded: bool, rows: Rows) -> Entered
-    ensures { λ e. ⌜ e ≡ entryOf allowed afforded rows ⌝ }
+fn entry(allowed: bool, afforded: bool, free: bool, rows: Rows) -> Entered
+    ensures { λ e. ⌜ e ≡ entryOf allowed afforded free rows ⌝ }
 {
     Entered {
         allowed,
         afforded,
+        free,
         rows,
     }
 }
@@ -119,13 +121,18 @@ fn enters(rows: Rows, row: u8) -> Entered
 {
     let used = bits::add(rows.used, row as u32);
     if bits::holds(rows.used, row as u32) {
-        return entry(true, true, rows_of(used, rows.may, rows.left));
+        return entry(true, true, true, rows_of(used, rows.may, rows.left));
     }
     let allowed = bits::holds(rows.may, row as u32);
     if rows.left == 0 {
-        return entry(allowed, false, rows_of(used, rows.may, 0));
+        return entry(allowed, false, false, rows_of(used, rows.may, 0));
     }
-    entry(allowed, true, rows_of(used, rows.may, rows.left - 1))
+    entry(
+        allowed,
+        allowed,
+        false,
+        rows_of(used, rows.may, rows.left - 1),
+    )
 }
 
 fn no_reasons() -> Reasons
@@ -147,14 +154,17 @@ fn blamed(why: Reasons, x: u64) -> Reasons
     }
 }
 
-// A row was refused since none are left: with more, the target might do.
-fn shorted(why: Reasons) -> Reasons
-    ensures { λ r. ⌜ r ≡ shorting why ⌝ }
+// A row was refused. If it is an allowed one, none are left: with more, the target might do.
+fn shorted(why: Reasons, allowed: bool) -> Reasons
+    ensures { λ r. ⌜ r ≡ shorting why allowed ⌝ }
 {
-    Reasons {
-        slots: why.slots,
-        short: true,
+    if allowed {
+        return Reasons {
+            slots: why.slots,
+            short: true,
+        };
     }
+    why
 }
 
 // The reasons of both.
@@ -200,16 +210,20 @@ fn carried(below: Placed, at: usize, k: usize, last: u8) -> Placed
 }
 
 // Whether no other target is to be tried: the first places are found, or each target fails for the same reasons.
-fn settled(ok: bool, why: Reasons, new: u64) -> bool
-    ensures { λ r. ⌜ Settled ok why new r ⌝ }
+// Want of rows is such a reason only if the guess took none: another target leaves no more of them.
+fn settled(ok: bool, why: Reasons, new: u64, free: bool) -> bool
+    ensures { λ r. ⌜ Settled ok why new free r ⌝ }
 {
     if ok {
         return true;
     }
-    if why.short {
+    if bits::meets(why.slots, new) {
         return false;
     }
-    !bits::meets(why.slots, new)
+    if free {
+        return true;
+    }
+    !why.short
 }
 
 // Nothing is left to place.
@@ -257,21 +271,18 @@ fn place(
     let wide = width(widths[at]);
     let last = lasts[at];
     let mut why = no_reasons();
-    let mut next = from;
-    'candidates: while next < own.len() {
-        let k = next;
-        next = k + 1;
+    'candidates: for k in from..own.len() {
         if target[9 * k] != source[9 * at] {
             continue 'candidates;
         }
         let e = enters(rows, own[k]);
-        if !e.allowed {
+        if !e.afforded {
+            why = shorted(why, e.allowed);
             continue 'candidates;
         }
         let mut g = b;
         let mut new: u64 = 0;
-        let mut a: usize = 0;
-        while a < wide {
+        for a in 0..wide {
             let x = source[9 * at + 1 + a];
             let y = target[9 * k + 1 + a];
             let have = stands(&g, x);
@@ -282,16 +293,11 @@ fn place(
                 why = blamed(why, x);
                 continue 'candidates;
             }
-            a += 1;
-        }
-        if !e.afforded {
-            why = shorted(why);
-            continue 'candidates;
         }
         let h = opened(g, last);
         let below = place(source, widths, lasts, target, own, at + 1, h, 0, e.rows);
         let r = carried(below, at, k, last);
-        if settled(r.ok, r.why, new) {
+        if settled(r.ok, r.why, new, e.free) {
             return r;
         }
         why = joined(why, r.why);

@@ -9,7 +9,7 @@ use Rattle.placing.specs.Task.{posed}
 use Rattle.placing.proofs.Slots.{stood-none}
 use Rattle.placing.proofs.Judging.{unsettled}
 use Rattle.placing.proofs.Guess.{Guess, guess-start, guess-same, guess-new, guess-full}
-use Rattle.placing.proofs.Refuted.{Refuted, refuted-start, refuted-relation, refuted-barred, refuted-short, refuted-unlike, refuted-below}
+use Rattle.placing.proofs.Refuted.{Refuted, refuted-start, refuted-relation, refuted-row, refuted-unlike, refuted-below}
 use Rattle.placing.proofs.Answered.{answer-end, answer-none, answer-settled, answer-below}
 use borrow.Fn.Kinds.{In}
 use borrow.Fn.PlainCycle.{Measures, is, falls, and}
@@ -45,17 +45,17 @@ place-below t = and 5 place-kinds.ps (falls 5 place-kinds.ps _<_ μ-place t) pla
 
 -- the terms so far agree
 abbrev place-Inv-loop : place-lts.InvT-loop
-place-Inv-loop source widths lasts target own at b from rows wide last why₀ next k e g₀ new₀ a₀ why g new a = (a ≤ wide) × (why ≡ why₀) × Guess (posed source widths lasts target own) b at k a g new
+place-Inv-loop source widths lasts target own at b from rows wide last why₀ k₀ e g₀ new₀ a₀ k-end why k g new a = (a ≤ wide) × (why ≡ why₀) × (k ≡ k₀) × Guess (posed source widths lasts target own) b at k₀ a g new
 
 abbrev place-μ-loop : place-lts.MeasureT-loop
-place-μ-loop source widths lasts target own at b from rows wide last why₀ next k e g₀ new₀ a₀ why g new a = wide - a
+place-μ-loop source widths lasts target own at b from rows wide last why₀ k₀ e g₀ new₀ a₀ k-end why k g new a = wide - a
 
 -- the targets so far are refuted
 abbrev place-Inv-candidates : place-lts.InvT-candidates
-place-Inv-candidates source widths lasts target own at b from rows wide last why₀ next₀ why next = (from ≤ next) × Refuted (posed source widths lasts target own) at b from rows why next
+place-Inv-candidates source widths lasts target own at b from rows wide last why₀ k₀ k-end why k = (from ≤ k) × Refuted (posed source widths lasts target own) at b from rows why k
 
 abbrev place-μ-candidates : place-lts.MeasureT-candidates
-place-μ-candidates source widths lasts target own at b from rows wide last why₀ next₀ why next = length own - next
+place-μ-candidates source widths lasts target own at b from rows wide last why₀ k₀ k-end why k = k-end - k
 
 -- st is where the function starts, cd where a target is taken up, lp where a term is
 pub +place-spec : {M : Type 1} → statement M
@@ -63,7 +63,7 @@ pub +place-spec : {M : Type 1} → statement M
     close
     μ-place
     λ t. place-lts.spec
-    (whole-reads.Asked, whole-reads.Learnt, width-reads.Asked, width-reads.Learnt, no-reasons-reads.Asked, no-reasons-reads.Learnt, enters-reads.Asked, enters-reads.Learnt, stands-reads.Asked, stands-reads.Learnt, noted-reads.Asked, noted-reads.Learnt, alike-reads.Asked, alike-reads.Learnt, blamed-reads.Asked, blamed-reads.Learnt, shorted-reads.Asked, shorted-reads.Learnt, opened-reads.Asked, opened-reads.Learnt, place-below t, place.Post, carried-reads.Asked, carried-reads.Learnt, settled-reads.Asked, settled-reads.Learnt, joined-reads.Asked, joined-reads.Learnt, none-reads.Asked, none-reads.Learnt)
+    (whole-reads.Asked, whole-reads.Learnt, width-reads.Asked, width-reads.Learnt, no-reasons-reads.Asked, no-reasons-reads.Learnt, enters-reads.Asked, enters-reads.Learnt, shorted-reads.Asked, shorted-reads.Learnt, stands-reads.Asked, stands-reads.Learnt, noted-reads.Asked, noted-reads.Learnt, alike-reads.Asked, alike-reads.Learnt, blamed-reads.Asked, blamed-reads.Learnt, opened-reads.Asked, opened-reads.Learnt, place-below t, place.Post, carried-reads.Asked, carried-reads.Learnt, settled-reads.Asked, settled-reads.Learnt, joined-reads.Asked, joined-reads.Learnt, none-reads.Asked, none-reads.Learnt)
     (place-at t)
     place.Post
     place-Inv-loop
@@ -97,14 +97,18 @@ pub +place-spec : {M : Type 1} → statement M
     -- enters-requires
     (λ c κs. let cd = c .before .before .before .before .before in
     let st = cd .before .before .before .before .before .before .before .before .before .before .before in
-    st .pre .1 .0 .rows (cd .candidates .next))
+    st .pre .1 .0 .rows (cd .candidates .k))
+    (λ c κs. search needs)
+    -- add-k-2
+    (λ c. let st = c .before .before .before .before .before .before .before .before .before .before .before .before .before .before .before .before .before .before .before .before in
+    omega (arith, st .pre .1 .0 .many, c .before .before .before .before .before .before .before .before .candidates-test .taken))
     (λ c. search needs)
     -- candidates-again-2
-    (λ c. let cd = c .before .before .before .before .before .before .before .before in
-    (omega (arith, cd .candidates .inv .0), refuted-barred _ _ _ _ _ _ _ (c .before .before .enters .ensures) _ (not-true _ (c .if3 .taken)) (cd .candidates .inv .1)))
+    (λ c. let cd = c .before .before .before .before .before .before .before .before .before in
+    (omega (arith, cd .candidates .inv .0), rw (c .shorted .ensures) (refuted-row _ _ _ _ _ _ _ (c .before .before .before .enters .ensures) _ (not-true _ (c .before .if3 .taken)) (cd .candidates .inv .1))))
     -- loop-holds
     (λ c. let st = c .before .before .before .before .before .before .before .before .before .before .before .before .before .before .before .before .before .before .before in
-    (omega arith, refl, guess-start _ _ _ _ (search (needs, st .good))))
+    (omega arith, refl, refl, guess-start _ _ _ _ (search (needs, st .good))))
     (λ c. search needs)
     (λ c. search needs)
     (λ c. search needs)
@@ -114,7 +118,11 @@ pub +place-spec : {M : Type 1} → statement M
     (λ c. search needs)
     (λ c. search needs)
     (λ c. search needs)
-    (λ c. search needs)
+    -- shared-slice-read-y
+    (λ c. let lp = c .before .before .before in
+    let cd = lp .before .before .before .before .before .before .before .before .before in
+    let st = cd .before .before .before .before .before .before .before .before .before .before .before in
+    omega (arith, st .pre .1 .0 .target, lp .before .before .before .before .before .before .before .before .candidates-test .taken, lp .loop .inv .2, cd .before .before .before .width .ensures .1, c .before .before .loop-test .taken))
     (λ c κs. search needs)
     -- mul-g
     (λ c. let lp = c .before .before .before .before .before .before in
@@ -127,13 +135,17 @@ pub +place-spec : {M : Type 1} → statement M
     (λ c κs. search needs)
     (λ c κs. search needs)
     (λ c κs. search needs)
+    -- add-k-3
+    (λ c. let lp = c .before .before .before .before .before .before .before .before .before in
+    let st = lp .before .before .before .before .before .before .before .before .before .before .before .before .before .before .before .before .before .before .before .before in
+    omega (arith, st .pre .1 .0 .many, lp .before .before .before .before .before .before .before .before .candidates-test .taken, lp .loop .inv .2))
     (λ c. search needs)
     -- candidates-again-3
     (λ c. let lp = c .before .before .before .before .before .before .before .before .before in
     let cd = lp .before .before .before .before .before .before .before .before .before in
     let l = lp .loop in
     let stood = c .before .before .before .before .stands .ensures in
-    (omega (arith, cd .candidates .inv .0), rw (c .blamed .ensures, l .inv .1) (refuted-unlike _ _ _ _ _ _ (l .a) (l .g) (l .new) (l .inv .2) _ (omega (arith, cd .before .before .before .width .ensures .0, c .before .before .before .before .before .before .before .before .loop-test .taken)) (λ e. c .before .before .before .if4 .left (stood ∙ e)) (λ e. eqb-false _ _ (sym (c .before .before .alike .ensures) ∙ not-true _ (c .before .if5 .taken)) (stood ∙ e)) (cd .candidates .inv .1))))
+    (omega (arith, cd .candidates .inv .0, l .inv .2), rw (c .blamed .ensures, l .inv .1, l .inv .2) (refuted-unlike _ _ _ _ _ _ (l .a) (l .g) (l .new) (l .inv .3) _ (omega (arith, cd .before .before .before .width .ensures .0, c .before .before .before .before .before .before .before .before .loop-test .taken)) (λ e. c .before .before .before .if4 .left (stood ∙ e)) (λ e. eqb-false _ _ (sym (c .before .before .alike .ensures) ∙ not-true _ (c .before .if5 .taken)) (stood ∙ e ∙ rw (l .inv .2))) (cd .candidates .inv .1))))
     (λ c. search needs)
     (λ c. search needs)
     -- loop-again
@@ -144,49 +156,47 @@ pub +place-spec : {M : Type 1} → statement M
     let stood = c .before .stands .ensures in (
       omega (arith, c .before .before .before .before .before .loop-test .taken),
       l .inv .1,
+      l .inv .2,
       ⊎-elim
-          (λ w. rw (w .2, w .3, w .1 .ensures) (guess-new _ _ _ _ _ _ _ (l .inv .2) (sym stood ∙ w .0 .taken) (st .pre .1 .0 .solid (cd .candidates .next) (l .a) (lp .before .before .before .before .before .before .before .before .candidates-test .taken) (omega (arith, cd .before .before .before .width .ensures .1, c .before .before .before .before .before .loop-test .taken)))))
-          (λ w. rw (w .3, w .4) (guess-same _ _ _ _ _ _ _ (l .inv .2) (λ e. w .0 .left (stood ∙ e)) (sym stood ∙ eqb-true _ _ (sym (w .1 .ensures) ∙ not-false _ (w .2 .left)))))
+          (λ w. rw (w .2, w .3, w .1 .ensures, l .inv .2) (guess-new _ _ _ _ _ _ _ (l .inv .3) (sym stood ∙ w .0 .taken) (st .pre .1 .0 .solid (cd .candidates .k) (l .a) (lp .before .before .before .before .before .before .before .before .candidates-test .taken) (omega (arith, cd .before .before .before .width .ensures .1, c .before .before .before .before .before .loop-test .taken)))))
+          (λ w. rw (w .3, w .4) (guess-same _ _ _ _ _ _ _ (l .inv .3) (λ e. w .0 .left (stood ∙ e)) (sym stood ∙ eqb-true _ _ (sym (w .1 .ensures) ∙ not-false _ (w .2 .left)) ∙ rw (l .inv .2))))
           (c .if4 .came),
     ))
     (λ c κs. search needs)
-    (λ c. search needs)
-    -- candidates-again-4
-    (λ c. let lp = c .before .before .before .before in
-    let cd = lp .before .before .before .before .before .before .before .before .before in
-    (omega (arith, cd .candidates .inv .0), rw (c .shorted .ensures, lp .loop .inv .1) (refuted-short _ _ _ _ _ _ _ (lp .before .before .before .enters .ensures) _ (not-false _ (lp .before .if3 .left)) (not-true _ (c .before .if6 .taken)) (cd .candidates .inv .1))))
-    (λ c κs. search needs)
     -- add-place
-    (λ c. let cd = c .before .before .before .before .before .before .before .before .before .before .before .before .before in
+    (λ c. let cd = c .before .before .before .before .before .before .before .before .before .before .before in
     let st = cd .before .before .before .before .before .before .before .before .before .before .before in
     omega (arith, st .pre .1 .0 .few, cd .before .before .before .before .before .if1 .left))
     -- place-requires
-    (λ c κs. let cd = c .before .before .before .before .before .before .before .before .before .before .before .before .before in
+    (λ c κs. let cd = c .before .before .before .before .before .before .before .before .before .before .before in
     let st = cd .before .before .before .before .before .before .before .before .before .before .before in
     (omega (arith, st .pre .0, cd .before .before .before .before .before .if1 .left), (st .pre .1 .0, omega (arith, cd .before .before .before .before .before .if1 .left))))
     -- carried-requires
-    (λ c κs. let lp = c .before .before .before .before .before in
+    (λ c κs. let lp = c .before .before .before in
     let cd = lp .before .before .before .before .before .before .before .before .before in
     let st = cd .before .before .before .before .before .before .before .before .before .before .before in
-    (omega (arith, st .pre .1 .0 .few, cd .before .before .before .before .before .if1 .left), omega (arith, st .pre .1 .0 .many, lp .before .before .before .before .before .before .before .before .candidates-test .taken)))
+    (omega (arith, st .pre .1 .0 .few, cd .before .before .before .before .before .if1 .left), omega (arith, st .pre .1 .0 .many, lp .before .before .before .before .before .before .before .before .candidates-test .taken, lp .loop .inv .2)))
     (λ c κs. search needs)
     -- returns-2
-    (λ c. let lp = c .before .before .before .before .before .before .before .before in
+    (λ c. let lp = c .before .before .before .before .before .before in
     let cd = lp .before .before .before .before .before .before .before .before .before in
     let l = lp .loop in
     let n = lp .before .before .before .enters .ensures in
-    answer-settled _ _ _ _ _ (cd .before .before .before .before .before .if1 .left) _ _ _ _ (guess-full _ _ _ _ _ _ _ _ (omega (arith, cd .before .before .before .width .ensures .0, l .inv .0)) (omega (arith, cd .before .before .before .width .ensures .0, c .before .before .before .before .before .before .before .loop-test .left)) (l .inv .2)) (c .before .before .before .before .opened .ensures) _ (answer-below _ _ _ _ _ _ (lp .before .before .before .enters .ensures) _ (c .before .before .before .place .ensures)) _ (lp .before .before .before .before .before .before .before .before .candidates-test .taken) (cd .candidates .inv .0) (lp .before .before .before .before .before .if2 .left) (n .afforded (not-false _ (lp .before .if3 .left)) .0 (not-false _ (c .before .before .before .before .before .if6 .left))) (cd .candidates .inv .1) _ (c .before .before .carried .ensures) _ (c .before .settled .ensures) (c .if7 .taken))
+    answer-settled _ _ _ _ _ (cd .before .before .before .before .before .if1 .left) _ _ _ _ (guess-full _ _ _ _ _ _ _ _ (omega (arith, cd .before .before .before .width .ensures .0, l .inv .0)) (omega (arith, cd .before .before .before .width .ensures .0, c .before .before .before .before .before .loop-test .left)) (l .inv .3)) (c .before .before .before .before .opened .ensures) _ (answer-below _ _ _ _ _ _ n _ (c .before .before .before .place .ensures)) _ (lp .before .before .before .before .before .before .before .before .candidates-test .taken) (cd .candidates .inv .0) (lp .before .before .before .before .before .if2 .left) (n .afforded .0 (not-false _ (lp .before .if3 .left))) (cd .candidates .inv .1) _ (n .free .0) _ (rw (l .inv .2) at (c .before .before .carried .ensures)) _ (c .before .settled .ensures) (c .if6 .taken))
     (λ c κs. search needs)
-    -- candidates-less-5
-    (λ c. let lp = c .before .before .before .before .before .before .before .before .before in
-    omega (arith, lp .before .before .before .before .before .before .before .before .candidates-test .taken))
-    -- candidates-again-5
-    (λ c. let lp = c .before .before .before .before .before .before .before .before .before in
+    -- add-k-4
+    (λ c. let lp = c .before .before .before .before .before .before .before in
+    let st = lp .before .before .before .before .before .before .before .before .before .before .before .before .before .before .before .before .before .before .before .before in
+    omega (arith, st .pre .1 .0 .many, lp .before .before .before .before .before .before .before .before .candidates-test .taken, lp .loop .inv .2))
+    -- candidates-less-4
+    (λ c. let lp = c .before .before .before .before .before .before .before in
+    omega (arith, lp .before .before .before .before .before .before .before .before .candidates-test .taken, lp .loop .inv .2))
+    -- candidates-again-4
+    (λ c. let lp = c .before .before .before .before .before .before .before in
     let cd = lp .before .before .before .before .before .before .before .before .before in
     let l = lp .loop in
     let q = c .before .before .before .carried .ensures in
-    (omega (arith, cd .candidates .inv .0), rw (c .joined .ensures, l .inv .1, q) (refuted-below _ _ _ _ _ _ _ _ _ (guess-full _ _ _ _ _ _ _ _ (omega (arith, cd .before .before .before .width .ensures .0, l .inv .0)) (omega (arith, cd .before .before .before .width .ensures .0, c .before .before .before .before .before .before .before .before .loop-test .left)) (l .inv .2)) (c .before .before .before .before .before .opened .ensures) _ ((answer-below _ _ _ _ _ _ (lp .before .before .before .enters .ensures) _ (c .before .before .before .before .place .ensures)) .none (unsettled _ _ _ _ (rw q at (c .before .before .settled .ensures)) (c .before .if7 .left))) _ (cd .candidates .inv .1))))
+    (omega (arith, cd .candidates .inv .0, l .inv .2), rw (c .joined .ensures, l .inv .1, l .inv .2, q) (refuted-below _ _ _ _ _ _ _ _ _ (guess-full _ _ _ _ _ _ _ _ (omega (arith, cd .before .before .before .width .ensures .0, l .inv .0)) (omega (arith, cd .before .before .before .width .ensures .0, c .before .before .before .before .before .before .loop-test .left)) (l .inv .3)) (c .before .before .before .before .before .opened .ensures) _ ((answer-below _ _ _ _ _ _ (lp .before .before .before .enters .ensures) _ (c .before .before .before .before .place .ensures)) .none (unsettled _ _ _ _ _ (rw q at (c .before .before .settled .ensures)) (c .before .if6 .left))) _ (cd .candidates .inv .1))))
     (λ c κs. search needs)
     -- returns-3
-    (λ c. let cd = c .before .before in
-    rw (c .none .ensures) (answer-none _ _ _ _ _ (cd .before .before .before .before .before .if1 .left) _ _ (c .before .candidates-test .left) (cd .candidates .inv .1)))
+    (λ c. rw (c .none .ensures) (answer-none _ _ _ _ _ (c .before .before .before .before .before .before .before .if1 .left) _ _ (c .before .candidates-test .left) (c .before .before .candidates .inv .1)))
