@@ -133,9 +133,6 @@ module _ {book words widths : List ℕ} {k : ℕ} (a w : List ℕ) (p : Puts boo
     returns : BackOf (p .value) (p .list) m w₁ w₂ n
     returns = back .is (p .value) (p .list) (tells-of p)
 
-    pub lengths-fit : (m ≤ 24) × (n ≤ 96)
-    lengths-fit = (goes .few, returns .few)
-
     abbrev result : Answered
     result = record { rows = p .list; there = goes .bytes; back = returns .bytes }
 
@@ -164,6 +161,10 @@ module _ {book words widths : List ℕ} {k : ℕ} (a w : List ℕ) (p : Puts boo
         answer-long = long ∙ ap length answer-is;
         witness-long = omega (arith, goes .long, returns .long, length-append (goes .bytes) (returns .bytes));
       }
+
+-- both parts are short
+pub lengths-fit : {book words widths : List ℕ} {k answer witness : ℕ} (p : Puts book words widths k answer witness) {w w₁ w₂ : List ℕ} {m n : ℕ} → ThereTold book words k w w₁ m → BackTold book words k m w₁ w₂ n → (m ≤ 24) × (n ≤ 96)
+lengths-fit p there back = (there .is (p .value) (p .list) (tells-of p) .few, back .is (p .value) (p .list) (tells-of p) .few)
 
 -- there is room left behind the first part
 pub there-kept : {book words widths : List ℕ} {k answer : ℕ} (w : List ℕ) (p : Puts book words widths k answer (length w)) {w₁ : List ℕ} {m : ℕ} → ThereTold book words k w w₁ m → m + 96 ≤ length w₁

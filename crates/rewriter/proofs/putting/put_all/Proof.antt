@@ -27,6 +27,13 @@ put-rule-requires c κs =
     let w = c .before .before .before .before .before .before .before .before .before .before .before .before .before .before .before .pre in
     writable w (part-of .ensures) refl
 
+add-t17 : tie.Need-add-t17
+add-t17 c =
+    let put-back = c .before .before .before .before .before .before .before .put-back in
+    let put-there = c .before .before .before .before .before .before .before .before .before .before .before .put-there in
+    let w = c .before .before .before .before .before .before .before .before .before .before .before .before .before .before .before .before .before .before .pre in
+    let f = lengths-fit w (put-there .ensures) (put-back .ensures) in omega arith
+
 returns : tie.Need-returns
 returns c =
     let put-rule = c .before .before .put-rule in
@@ -44,7 +51,7 @@ put-all-spec =
     put-back-requires
     part-of-requires
     put-rule-requires
-    (λ c. search needs)
+    add-t17
     (λ c. search needs)
     (λ c. search needs)
     returns)
