@@ -1,3 +1,4 @@
 pub mod Parts
 pub mod PairSteps
 pub mod AgainstSteps
+pub mod RowSteps
