@@ -1,7 +1,7 @@
 -- One row's use against those of all rows, one after the other.
-use mathlib.Core.Path.{_≡_, refl, sym, ap, ap₂, _∙_, subst}
+use mathlib.Core.Path.{_≡_, sym, ap, _∙_, subst}
 use mathlib.Core.Bool.{Bool, true, false}
-use mathlib.Core.Logic.{_↔_, _⊎_, inl, inr, ⊎-elim}
+use mathlib.Core.Logic.{_↔_, ⊎-elim}
 use mathlib.Core.List.{List}
 use Prim.Native.Nat.{ℕ, suc, _+_, _*_, _-_, _<_, _≤_}
 use native.Mathlib.Omega.{arith}
@@ -34,6 +34,15 @@ module _ {source widths target begins : List ℕ} {n : ℕ} where
     begins-at : (d : ℕ) → d ≤ n → getD (starts 0 (uses s 0 rows)) d 0 ≡ getD begins d 0
     begins-at d h = ap (λ l. getD l d 0) (sym (a .all .starts)) ∙ getD-take (length rows + 1) begins d 0 (let c = a .count in omega arith)
 
+    target-long : length target ≡ 9 * length (joined (uses s 0 rows))
+    target-long = ap length (a .all .words) ∙ words-length ownCode (joined (uses s 0 rows))
+
+    few-targets : length (joined (uses s 0 rows)) ≤ 512
+    few-targets =
+        let f = a .few in
+        let c = a .count in
+        omega (arith, uses-few (a .sound .arities) s (a .sound .question) (a .sound .bounds) 0 rows (a .sound .within))
+
     module _ (d : ℕ) (h : d < n) where
       use-between : Between (uses s 0 rows) d (getD begins d 0) (getD begins (d + 1) 0)
       use-between =
@@ -59,15 +68,6 @@ module _ {source widths target begins : List ℕ} {n : ℕ} where
       ends-inside : getD begins (d + 1) 0 ≤ length (joined (uses s 0 rows))
       ends-inside = use-between .inside
 
-      target-long : length target ≡ 9 * length (joined (uses s 0 rows))
-      target-long = ap length (a .all .words) ∙ words-length ownCode (joined (uses s 0 rows))
-
-      few-targets : length (joined (uses s 0 rows)) ≤ 512
-      few-targets =
-          let f = a .few in
-          let c = a .count in
-          omega (arith, uses-few (a .sound .arities) s (a .sound .question) (a .sound .bounds) 0 rows (a .sound .within))
-
   module _ (a : SomeAgainst source widths target begins n) where
     pub against-few : n ≤ 64
     against-few = a .is .few
@@ -77,10 +77,10 @@ module _ {source widths target begins : List ℕ} {n : ℕ} where
       in-order = omega (arith, use-between (a .is) d h .long)
 
       pub part-inside : 9 * getD begins (d + 1) 0 ≤ length target
-      part-inside = omega (arith, ends-inside (a .is) d h, target-long (a .is) d h)
+      part-inside = omega (arith, ends-inside (a .is) d h, target-long (a .is))
 
       pub part-small : getD begins (d + 1) 0 ≤ 512
-      part-small = omega (arith, ends-inside (a .is) d h, few-targets (a .is) d h)
+      part-small = omega (arith, ends-inside (a .is) d h, few-targets (a .is))
 
       pub some-pair : SomePair source widths (partOf target begins d)
       some-pair = record { summaries = a .summaries; rows = a .rows; d = d; r = a .r; is = pair-at (a .is) d h }

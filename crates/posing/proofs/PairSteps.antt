@@ -10,7 +10,7 @@ use Rattle.words.specs.Summaries.{Summaries, inPlace}
 use Rattle.layout.proofs.Places.{getD-in}
 use Rattle.coding.specs.Code.{ownCode}
 use Rattle.frame.specs.Numbered.{Rows, nothing, rowAt}
-use Rattle.placing.specs.Task.{Task, posed}
+use Rattle.placing.specs.Task.{posed}
 use Rattle.ties.proofs.InUse.{use-few}
 use Rattle.wording.proofs.WordLaws.{words-length}
 use Rattle.expanding.proofs.Spread.{widths-length}
@@ -22,6 +22,9 @@ zeros-at zero m k = refl
 zeros-at (suc n) zero k = refl
 zeros-at (suc n) (suc m) zero = refl
 zeros-at (suc n) (suc m) (suc k) = zeros-at n m k
+
+marks-long : (n : ℕ) → n ≤ 8 → length (take n (replicate {A = ℕ} 8 0)) ≡ n
+marks-long n h = length-take-le n (replicate 8 0) h
 
 -- "summary 1 to 8" subgoals
 row-few : {s : Summaries} {rows : Rows} → SoundRows s rows → (r : ℕ) → r < length rows → length (inPlace s r (rowAt rows r)) ≤ 8
@@ -41,9 +44,6 @@ module _ {source widths target : List ℕ} where
     few-targets : length target / 9 ≤ 8
     few-targets = omega (arith, targets-are, row-few (p .sound) d (p .over))
 
-    marks : (n : ℕ) → n ≤ 8 → length (take n (replicate {A = ℕ} 8 0)) ≡ n
-    marks n h = length-take-le n (replicate 8 0) h
-
     uses-by : UsesBy s rows d r (posed source widths (take (length widths) (replicate 8 0)) target (take (length target / 9) (replicate 8 0)))
     uses-by = record {
       arities = p .sound .arities;
@@ -53,8 +53,8 @@ module _ {source widths target : List ℕ} where
       over = p .over;
       under = p .under .there;
       words = λ i. posed (p .under .words i) (p .under .counts i) (take (length widths) (replicate 8 0)) (p .words i) (take (length target / 9) (replicate 8 0));
-      marked = marks (length widths) few-goals ∙ goals-are;
-      owned = marks (length target / 9) few-targets ∙ targets-are;
+      marked = marks-long (length widths) few-goals ∙ goals-are;
+      owned = marks-long (length target / 9) few-targets ∙ targets-are;
       sets = λ k. omega (arith, zeros-at (length target / 9) 8 k);
     }
 
@@ -66,10 +66,10 @@ module _ {source widths target : List ℕ} where
     pair-targets = few-targets (p .is)
 
     pub pair-lasts : length (take (length widths) (replicate {A = ℕ} 8 0)) ≡ length widths
-    pair-lasts = marks (p .is) (length widths) pair-goals
+    pair-lasts = marks-long (length widths) pair-goals
 
     pub pair-own : length (take (length target / 9) (replicate {A = ℕ} 8 0)) ≡ length target / 9
-    pair-own = marks (p .is) (length target / 9) pair-targets
+    pair-own = marks-long (length target / 9) pair-targets
 
     pub pair-uses : Uses (posed source widths (take (length widths) (replicate 8 0)) target (take (length target / 9) (replicate 8 0)))
     pair-uses = record { summaries = p .summaries; rows = p .rows; over = p .d; under = p .r; by = uses-by (p .is) }

@@ -20,7 +20,8 @@ use Rattle.expanding.specs.Promises.{OneUse, OneWidths, AllStarts}
 use Rattle.expanding.proofs.Spread.{widths-length}
 use Rattle.expanding.proofs.Growing.{rowFrom, row-of}
 use Rattle.expanding.proofs.Beginnings.{starts-long}
-use Rattle.posing.specs.Dominators.{Against, SomeAgainst, TellsAgainst, Dominators, Targets, Onto, DominatorsOf, Dominance}
+use Rattle.posing.specs.Targets.{Targets}
+use Rattle.posing.specs.Dominators.{Against, SomeAgainst, TellsAgainst, Dominators, Onto, DominatorsOf, Dominance}
 
 module _ {book rows : List ℕ} {n : ℕ} where
   module _ (g : RowsGiven book rows n) {r : ℕ} (h : r < n) {before after old new : List ℕ} {k : ℕ}

@@ -74,9 +74,6 @@ pub record TellsAgainst (source widths target begins : List ℕ) (n set : ℕ) :
 
 -- The same of rows as words, over a book.
 module _ (book rows : List ℕ) (n : ℕ) where
-  pub record Targets (target : List ℕ) : Type 0 where
-    pub is : (b : Book) (l : Rows) → RowsOf book rows n b l → target ≡ wordsOf ownCode (joined (uses (admittedOf b) 0 l))
-
   pub record Onto (target begins : List ℕ) : Type 0 where
     pub is : (b : Book) (l : Rows) → RowsOf book rows n b l → AllUses (admittedOf b) l target begins
 

@@ -1,7 +1,8 @@
 // Which rows dominate which: of each row the set of those in whose use its own use can be found.
 ghost use Prim.Native.Nat.{_<_, _≤_};
 ghost use Rattle.expanding.specs.Given.{RowsGiven};
-ghost use Rattle.posing.specs.Dominators.{SomePair, TellsPair, SomeAgainst, TellsAgainst, Targets, Onto, DominatorsOf, Dominance};
+ghost use Rattle.posing.specs.Targets.{Targets};
+ghost use Rattle.posing.specs.Dominators.{SomePair, TellsPair, SomeAgainst, TellsAgainst, Onto, DominatorsOf, Dominance};
 use choosing::prune::dominates;
 use expanding::all::use_starts;
 use expanding::one::kept_use;
