@@ -1,7 +1,41 @@
 // Which rows dominate which: of each row the set of those in whose use its own use can be found.
+ghost use Prim.Native.Nat.{_<_, _≤_};
+ghost use Rattle.expanding.specs.Given.{RowsGiven};
+ghost use Rattle.posing.specs.Targets.{Targets};
+ghost use Rattle.posing.specs.Dominators.{SomePair, TellsPair, SomeAgainst, TellsAgainst, Onto, DominatorsOf, Dominance};
 use choosing::prune::dominates;
 use expanding::all::use_starts;
 use expanding::one::kept_use;
+
+// Whether the source's use goes into the target's. Both are single uses: what is marked beside their subgoals does not matter.
+fn goes_into(source: &[u64], widths: &[u8], target: &[u64]) -> bool
+    requires { ⌜ SomePair (now source) (now widths) (now target) ⌝ }
+    ensures { λ r. ⌜ TellsPair (now (source .entry)) (now (widths .entry)) (now (target .entry)) r ⌝ }
+{
+    let lasts = [0u8; 8];
+    let own = [0u8; 8];
+    let goals = widths.len();
+    let targets = target.len() / 9;
+    dominates(source, widths, &lasts[..goals], target, &own[..targets])
+}
+
+// The rows into whose use the source's goes.
+fn those_over(source: &[u64], widths: &[u8], target: &[u64], starts: &[u16; 65], n: usize) -> u64
+    requires { ⌜ SomeAgainst (now source) (now widths) (now target) (now starts) n ⌝ }
+    ensures { λ r. ⌜ TellsAgainst (now (source .entry)) (now (widths .entry)) (now (target .entry)) (now (starts .entry)) n r ⌝ }
+{
+    let mut set: u64 = 0;
+    let mut d: usize = 0;
+    while d < n {
+        let from = 9 * (starts[d] as usize);
+        let to = 9 * (starts[d + 1] as usize);
+        if goes_into(source, widths, &target[from..to]) {
+            set = bits::add(set, d as u32);
+        }
+        d += 1;
+    }
+    set
+}
 
 // The rows that dominate row r, each row by itself.
 fn dominators(
@@ -11,32 +45,22 @@ fn dominators(
     r: usize,
     target: &[u64],
     starts: &[u16; 65],
-) -> u64 {
+) -> u64
+    requires { ⌜ RowsGiven (now book) (now rows) n × (n ≤ 64) × (r < n) × Onto (now book) (now rows) n (now target) (now starts) ⌝ }
+    ensures { λ s. ⌜ DominatorsOf (now (book .entry)) (now (rows .entry)) n r s ⌝ }
+{
     let mut source = [0u64; 72];
     let mut widths = [0u8; 8];
-    let goals = kept_use(book, &rows[9 * r..], &mut source, &mut widths);
-    let marks = [0u8; 8];
-    let mut set: u64 = 0;
-    let mut d: usize = 0;
-    while d < n {
-        let from = starts[d] as usize;
-        let to = starts[d + 1] as usize;
-        if dominates(
-            &source[..9 * goals],
-            &widths[..goals],
-            &marks[..goals],
-            &target[9 * from..9 * to],
-            &marks[..to - from],
-        ) {
-            set = bits::add(set, d as u32);
-        }
-        d += 1;
-    }
-    set
+    let row = 9 * r;
+    let goals = kept_use(book, &rows[row..], &mut source, &mut widths);
+    those_over(&source[..9 * goals], &widths[..goals], target, starts, n)
 }
 
 // Of each row the set of rows that dominate it.
-pub(crate) fn dominance(book: &[u8], rows: &[u64], n: usize, target: &[u64]) -> [u64; 64] {
+pub(crate) fn dominance(book: &[u8], rows: &[u64], n: usize, target: &[u64]) -> [u64; 64]
+    requires { ⌜ RowsGiven (now book) (now rows) n × (n ≤ 64) × Targets (now book) (now rows) n (now target) ⌝ }
+    ensures { λ r. ⌜ Dominance (now (book .entry)) (now (rows .entry)) n r ⌝ }
+{
     let mut starts = [0u16; 65];
     use_starts(book, rows, n, &mut starts);
     let mut table = [0u64; 64];

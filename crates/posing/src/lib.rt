@@ -1,5 +1,6 @@
 // The task of choosing rows, posed for a sound book's question over all its summary rows.
 ghost use Rattle.posing.specs.Asked.{Asked, RowsChosen};
+ghost use Rattle.posing.specs.Targets.{Targets, Owners};
 
 mod dominance; // which rows dominate which
 
@@ -12,7 +13,10 @@ use dominance::dominance;
 use expanding::all::expand;
 
 // The rows are chosen, given the words of their uses.
-fn choose_onto(book: &[u8], rows: &[u64], n: usize, target: &[u64], own: &[u8]) -> Chosen {
+fn choose_onto(book: &[u8], rows: &[u64], n: usize, target: &[u64], own: &[u8]) -> Chosen
+    requires { ⌜ Asked (now book) (now rows) n × Targets (now book) (now rows) n (now target) × Owners (now book) (now rows) n (now own) ⌝ }
+    ensures { λ r. ⌜ RowsChosen (now (book .entry)) (now (rows .entry)) n r ⌝ }
+{
     let question = part_of(book, 1);
     let mut source = [0u64; 108];
     let mut widths = [0u8; 12];

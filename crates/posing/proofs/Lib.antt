@@ -1,0 +1,7 @@
+pub mod Parts
+pub mod PairSteps
+pub mod AgainstSteps
+pub mod RowSteps
+pub mod AskedLaws
+pub mod ChooseSteps
+pub mod ExpandSteps
