@@ -1,3 +1,5 @@
 pub mod Picks
 pub mod PickMeans
 pub mod PutLaws
+pub mod ChosenLaws
+pub mod RefusedLaws

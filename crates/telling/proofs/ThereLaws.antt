@@ -144,7 +144,7 @@ module _ {book target own inner : List ℕ} (b : Book) (l : List (Subgoal (Term 
     written-are =
         ap (pairBytes (r .ks) own inner 0) (sym places-long)
         ∙ pairs-written ls (r .ks) own inner (there-found .places) 0 (λ k h. (ap (λ m. getD m k 0) (o .owns) ∙ omega (arith, owners-at 0 ls k h), inner-at k h))
-            (λ j h. let p = place-within j (omega (arith, places-long)) in let z : 0 + j ≡ j = omega arith in (ap (λ i. getD (r .ks) i 0) z ∙ p .0, omega (arith, p .1, owned)))
+        (λ j h. let p = place-within j (omega (arith, places-long)) in let z : 0 + j ≡ j = omega arith in (ap (λ i. getD (r .ks) i 0) z ∙ p .0, omega (arith, p .1, owned)))
 
     pub there-of : {out out′ : List ℕ} → out′ ≡ sets out 0 (pairBytes (r .ks) own inner 0 n) → ThereOf b l out out′ (2 * n)
     there-of {out} e = record {

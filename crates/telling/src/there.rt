@@ -19,14 +19,7 @@ fn there_onto(book: &[u8], target: &[u64], own: &[u8], inner: &[u8], out: &mut [
     let n = question_source(book, &mut source, &mut widths);
     let lasts = [0u8; 12];
     let b = question_bindings(book);
-    let places = first_places(
-        &source[..9 * n],
-        &widths[..n],
-        &lasts[..n],
-        target,
-        own,
-        b,
-    );
+    let places = first_places(&source[..9 * n], &widths[..n], &lasts[..n], target, own, b);
     put_pairs(out, &places.ks, own, inner, n);
     2 * n
 }

@@ -1,0 +1,79 @@
+-- Each refusal, and what stays.
+use mathlib.Core.Path.{_≡_, refl, subst}
+use mathlib.Core.Logic.{inl, inr, ⊎-elim}
+use mathlib.Core.Bool.{Bool, true, false}
+use mathlib.Core.List.{List}
+use Prim.Native.Nat.{ℕ, _*_, _<_, _≤_}
+use native.Mathlib.Omega.{arith}
+use lib.ListN.{length, drop}
+use Rattle.words.specs.Rows.{allRows}
+use Rattle.words.specs.Book.{Book, admittedOf}
+use Rattle.layout.specs.BookLayout.{SoundBook}
+use Rattle.layout.specs.Refusals.{Refusal}
+use Rattle.listing.specs.Listing.{Sought, AllStand, TooMany, ListedSays, Listing}
+use Rattle.listing.specs.declared.Listed.{Listed}
+use Rattle.listing.specs.declared.Listed.the-variants.{All, Over}
+use Rattle.books.specs.Says.{ReadingSays}
+use Rattle.books.specs.declared.Reading.{Reading}
+use Rattle.books.specs.declared.Reading.the-variants.{Sound, Refused as RefusedWith}
+use Rattle.promise.specs.Table.{Fault1, Fault9, Fault10, Refused, one, read, nine, ten, answerRoom, witnessRoom, mostRows}
+use Rattle.promise.proofs.Grants.{value-safe}
+use Rattle.promise.proofs.Total.{fault-9}
+use Rattle.choosing.specs.Chosen.{ChosenBy, Found, NotFound}
+use Rattle.choosing.specs.declared.Chosen.{Chosen}
+use Rattle.posing.specs.Asked.{AskedOf, Asked, RowsChosen}
+use Rattle.rewriter.specs.Rewriting.{TurnedDown}
+use Rattle.rewriter.specs.Steps.{Sounds, Rowed, ChosenPut}
+use Rattle.rewriter.proofs.ChosenLaws.{few-rows}
+
+pub turned-down : {book a w : List ℕ} {k p : ℕ} → Refused book (length a) (length w) k p → TurnedDown book a a w w k p
+turned-down r = record { refused = r; answer-stays = refl; witness-stays = refl }
+
+pub answer-short : {book : List ℕ} {answer witness : ℕ} → answer < 534 → Refused book answer witness 1 0
+unfolding answerRoom
+answer-short h = one (inl h)
+
+pub witness-short : {book : List ℕ} {answer witness : ℕ} → witness < 120 → Refused book answer witness 1 0
+unfolding witnessRoom
+witness-short h = one (inr h)
+
+pub roomy : {answer witness : ℕ} → 534 ≤ answer → 120 ≤ witness → Fault1 answer witness → ⊥
+unfolding answerRoom witnessRoom
+roomy a w f = ⊎-elim (λ h. omega arith) (λ h. omega arith) f
+
+pub not-read : {book : List ℕ} {answer witness k p : ℕ} → 534 ≤ answer → 120 ≤ witness → Refusal book k p → Refused book answer witness k p
+not-read a w r = read (roomy a w) r
+
+module _ {book : List ℕ} {answer witness : ℕ} (s : Sounds book answer witness) where
+  pub sought : {area : ℕ} → 576 ≤ area → Sought book area
+  sought h = record { value = s .value; sound = s .sound; room = omega arith }
+
+  pub over-64 : {before after : List ℕ} → TooMany (admittedOf (s .value)) (s .value .question) before after → Refused book answer witness 9 0
+  unfolding mostRows
+  over-64 t = nine (s .room) (s .value) (s .sound) (fault-9 (admittedOf (s .value)) (s .value .question) (value-safe (s .sound .value)) .1 (t .many))
+
+  pub rowed : {before after : List ℕ} {n : ℕ} → AllStand (admittedOf (s .value)) (s .value .question) before after n → Rowed book after n answer witness
+  rowed {before} {n = n} t = record { asked = record { value = s .value; is = record { sound = s .sound; count = t .count; few = t .few; rest = drop (9 * n) before; words = t .words } }; room = s .room }
+
+module _ {book rows : List ℕ} {n answer witness : ℕ} (w : Rowed book rows n answer witness) {chosen : Chosen} (c : RowsChosen book rows n chosen) where
+  pub chosen-put : chosen .ok ≡ true → ChosenPut book rows n chosen answer witness
+  chosen-put e = record { asked = w .asked; found = c .by (w .asked .value) (w .asked .is) .found e; room = w .room }
+
+  pub none-do : chosen .ok ≡ false → Refused book answer witness 10 0
+  none-do e = ten (w .room) (w .asked .value) (w .asked .is .sound) (few-rows (w .asked .value) (w .asked .is)) (c .by (w .asked .value) (w .asked .is) .none e .none)
+
+-- what the list of rows says, case by case
+module _ {book : List ℕ} {answer witness : ℕ} (s : Sounds book answer witness) {before after : List ℕ} {r : Listed} (l : Listing book before after r) where
+  pub rows-listed : {n : ℕ} → r ≡ All n → Rowed book after n answer witness
+  rows-listed e = rowed s (subst (ListedSays (admittedOf (s .value)) (s .value .question) before after) e (l .says (s .value) (s .sound)))
+
+  pub rows-over : r ≡ Over → Refused book answer witness 9 0
+  rows-over e = over-64 s (subst (ListedSays (admittedOf (s .value)) (s .value .question) before after) e (l .says (s .value) (s .sound)))
+
+-- what the reading says, case by case
+module _ {book : List ℕ} {answer witness : ℕ} (a : 534 ≤ answer) (w : 120 ≤ witness) {r : Reading} (says : ReadingSays book r) where
+  pub read-sound : r ≡ Sound → Sounds book answer witness
+  read-sound e = let v = subst (ReadingSays book) e says in record { value = v .0; sound = v .1; room = roomy a w }
+
+  pub read-refused : {k p : ℕ} → r ≡ RefusedWith k p → Refused book answer witness k p
+  read-refused e = not-read a w (subst (ReadingSays book) e says)

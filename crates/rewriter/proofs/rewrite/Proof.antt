@@ -1,0 +1,45 @@
+use Rattle.rewriter.proofs.RefusedLaws.{turned-down, answer-short, witness-short, read-sound, read-refused}
+use borrow.Author.Needs.{needs}
+use Rattle.rewriter.proofs.rewrite.Statement.{statement}
+use Rattle.rewriter.proofs.rewrite.Tie as tie
+
+returns : tie.Need-returns
+returns c =
+    let if1 = c .if1 in
+    turned-down (answer-short (if1 .taken))
+
+returns-2 : tie.Need-returns-2
+returns-2 c =
+    let if2 = c .if2 in
+    turned-down (witness-short (if2 .taken))
+
+rewrite-sound-requires : tie.Need-rewrite-sound-requires
+rewrite-sound-requires c κs =
+    let enum-told = c .before .before .enum-told in
+    let read-book = c .before .before .before .before .read-book in
+    let if2 = c .before .before .before .before .before .if2 in
+    let if1 = c .before .before .before .before .before .before .if1 in
+    read-sound (if1 .left) (if2 .left) (read-book .ensures) (enum-told .given .1)
+
+returns-3 : tie.Need-returns-3
+returns-3 c =
+    let number = c .before .number in
+    let read-book = c .before .before .before .read-book in
+    let if2 = c .before .before .before .before .if2 in
+    let if1 = c .before .before .before .before .before .if1 in
+    turned-down (read-refused (if1 .left) (if2 .left) (read-book .ensures) (number .given .1))
+
+pub rewrite-spec : {M : Type 1} → statement M
+rewrite-spec =
+    tie.close
+    (tie.spec
+    returns
+    returns-2
+    (λ c κs. search needs)
+    (λ c. search needs)
+    (λ c. search needs)
+    rewrite-sound-requires
+    returns-3
+    (λ c. search needs)
+    (λ c. search needs)
+    (λ c. search needs))

@@ -1,0 +1,23 @@
+use Rattle.rewriter.proofs.RefusedLaws.{turned-down, chosen-put, none-do}
+use borrow.Author.Needs.{needs}
+use Rattle.rewriter.proofs.rewrite_rows.Statement.{statement}
+use Rattle.rewriter.proofs.rewrite_rows.Tie as tie
+
+put-chosen-requires : tie.Need-put-chosen-requires
+put-chosen-requires c κs =
+    let if1 = c .before .before .if1 in
+    let choose-rows = c .before .before .before .choose-rows in
+    let w = c .before .before .before .before .before .before .before .before .pre in
+    chosen-put w (choose-rows .ensures) (if1 .taken)
+
+returns-2 : tie.Need-returns-2
+returns-2 c =
+    let if1 = c .if1 in
+    let choose-rows = c .before .choose-rows in
+    let w = c .before .before .before .before .before .before .pre in
+    turned-down (none-do w (choose-rows .ensures) (if1 .left))
+
+pub rewrite-rows-spec : {M : Type 1} → statement M
+rewrite-rows-spec =
+    tie.close
+    (tie.spec (λ c κs. search needs) put-chosen-requires (λ c. search needs) (λ c. search needs) (λ c. search needs) returns-2)
