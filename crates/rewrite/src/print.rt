@@ -69,6 +69,16 @@ fn print_rewriting(book: &[u8], answer: &[u8]) {
     }
 }
 
+// Of the question's subgoal i: the rewriting's subgoal that it is sent to, and the subgoal within that summary.
+fn print_pair(witness: &[u8], i: usize)
+    requires { ⌜ i ≤ 255 ⌝ }
+{
+    io::write_all(STDOUT_FILENO, b" ");
+    io::print_decimal(STDOUT_FILENO, byte_at(witness, 2 * i) as u64);
+    io::write_all(STDOUT_FILENO, b".");
+    io::print_decimal(STDOUT_FILENO, byte_at(witness, 2 * i + 1) as u64);
+}
+
 // The witness's first part: two bytes for each of the question's subgoals.
 fn print_there(witness: &[u8], subgoals: usize)
     requires { ⌜ subgoals ≤ 255 ⌝ }
@@ -76,22 +86,23 @@ fn print_there(witness: &[u8], subgoals: usize)
     io::write_all(STDOUT_FILENO, b"there");
     let mut i: usize = 0;
     while i < subgoals {
-        io::write_all(STDOUT_FILENO, b" ");
-        io::print_decimal(STDOUT_FILENO, byte_at(witness, 2 * i) as u64);
-        io::write_all(STDOUT_FILENO, b".");
-        io::print_decimal(STDOUT_FILENO, byte_at(witness, 2 * i + 1) as u64);
+        print_pair(witness, i);
         i += 1;
     }
     io::write_all(STDOUT_FILENO, b"\n");
 }
 
-// Its second part: the bytes from `from` on.
+fn print_place(place: u8) {
+    io::write_all(STDOUT_FILENO, b" ");
+    io::print_decimal(STDOUT_FILENO, place as u64);
+}
+
+// Its second part: the bytes from `from` on, each a subgoal of the question.
 fn print_back(witness: &[u8], from: usize) {
     io::write_all(STDOUT_FILENO, b"back");
     let mut at = from;
     while at < witness.len() {
-        io::write_all(STDOUT_FILENO, b" ");
-        io::print_decimal(STDOUT_FILENO, witness[at] as u64);
+        print_place(witness[at]);
         at += 1;
     }
     io::write_all(STDOUT_FILENO, b"\n");
