@@ -63,9 +63,49 @@ def book(arities, need, question, summaries):
     return layout(bodies, [0, need] + [stamp for stamp, _ in summaries])
 
 
+def read_rule(body, arities):
+    at = 2
+
+    def read_term():
+        nonlocal at
+        at += 5
+        return struct.unpack_from("<BI", body, at - 5)
+
+    head = [read_term() for _ in range(body[0])]
+    subgoals = []
+    for _ in range(body[1]):
+        relation = body[at]
+        at += 1
+        subgoals.append((relation, [read_term() for _ in range(arities[relation])]))
+    return (head, subgoals)
+
+
+def read(a_book):
+    """What book() made it of, if it is sound: arities, need, question, pairs of stamp and summary."""
+    entries = [struct.unpack_from("<III", a_book, 2 + 12 * i) for i in range(2 + a_book[0])]
+    bodies = [a_book[offset:offset + length] for offset, length, _ in entries]
+    arities = list(bodies[0])
+    rules = [read_rule(b, arities) for b in bodies[1:]]
+    stamps = [stamp for _, _, stamp in entries]
+    return arities, stamps[1], rules[0], list(zip(stamps[2:], rules[1:]))
+
+
 def stream(books):
     """Many books, each after its length: what the programs' form for many books takes."""
     return b"".join(struct.pack("<I", len(b)) + b for b in books)
+
+
+def unstream(data):
+    at, out = 0, []
+    while at < len(data):
+        size = struct.unpack_from("<I", data, at)[0]
+        out.append(data[at + 4:at + 4 + size])
+        at += 4 + size
+    return out
+
+
+def is_admitted(need, stamp):
+    return (stamp - need) % 2 ** 32 < 2 ** 31
 
 
 def rows(summary, question, most):

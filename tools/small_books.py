@@ -100,16 +100,25 @@ class Maker:
             by = self.random.choice((-1, -2, 2 ** 31, 2 ** 31 + 1, -self.random.randint(1, 2 ** 31 - 1)))
         return (need + by) % TOP
 
+    def renamed(self, a_rule):
+        """The same rule over other variables, so that another order of terms decides."""
+        head, body = a_rule
+        variables = sorted({t for _, ts in body for t in ts if t[0] == 0})
+        names = dict(zip(variables, ((0, n) for n in self.random.sample(range(32), len(variables)))))
+        other = lambda ts: [names.get(t, t) for t in ts]
+        return (other(head), [(r, other(ts)) for r, ts in body])
+
     def finished(self, arities, question, summaries, most=16):
         """The book, with as many of the summaries as have not too many rows for a search that tries all lists."""
         need = self.random.choice((1, 0, TOP - 1, TOP - 6, 2 ** 31, self.random.getrandbits(32)))
+        rename = self.renamed if self.chance(0.4) else lambda r: r
         kept, total = [], 0
         for s in summaries[:64]:
             count = len(rows(s, question, most)) if len(s[1]) <= 8 else most + 1
             if total + count <= most:
-                kept.append((self.a_stamp(need), s))
+                kept.append((self.a_stamp(need), rename(s)))
                 total += count
-        return book(arities, need, question, kept)
+        return book(arities, need, rename(question), kept)
 
     # ---- families
 
@@ -145,6 +154,46 @@ class Maker:
         out = [self.part(question, 0.5, 0.2) for _ in range(self.number(1, 5))]
         return self.finished([2], question, out)
 
+    def wide(self):
+        """Long subgoals and long heads."""
+        arities = [self.number(4, 8) for _ in range(self.number(1, 3))]
+        variables, constants = self.number(4, 20), self.random.choice((0, 0.1))
+        body = []
+        for _ in range(self.number(1, 5)):
+            r = self.random.randrange(len(arities))
+            body.append((r, [self.a_term(variables, constants) for _ in range(arities[r])]))
+        question = (self.a_head(body, self.random.choice((0.2, 0.5))), body)
+        out = [self.part(question, 0.95, 0.3) for _ in range(self.number(1, 6))]
+        out += [s for s in map(self.single, body) if len(s[0]) <= 8]
+        self.random.shuffle(out)
+        return self.finished(arities, question, out)
+
+    def crowd(self):
+        """Many summaries, most of them without a row or left out."""
+        arities, question = self.a_question(5)
+        arities = arities + [self.number(1, 3)]
+        out = [self.part(question) for _ in range(self.number(1, 5))] + [self.single(g) for g in question[1] if self.chance(0.7)]
+        idle = len(arities) - 1  # a relation that the question does not have
+        while len(out) < 64 and self.chance(0.97):
+            variables = [(0, v) for v in range(arities[idle])]
+            joined = (self.random.choice(question[1]),) if self.chance(0.5) else ()
+            out.append((variables[:self.number(0, arities[idle])], [*joined, (idle, variables)]))
+        self.random.shuffle(out)
+        return self.finished(arities, question, out)
+
+    def alike(self):
+        """The same summaries many times: near 64 rows, and short answers."""
+        m = self.number(2, 5)
+        body = [(self.random.randrange(2), [(0, self.number(0, m)), (0, self.number(0, m))]) for _ in range(m)]
+        question = (self.a_head(body, 0.3), body)
+        whole = self.renamed(self.part((body[0][1], body), 1, 0.9))
+        some = [self.single(g) for g in body[:2]] + [self.part(question, 0.9, 0.6), self.part(question, 0.9, 0.9), whole]
+        out = [self.random.choice(some) for _ in range(self.number(20, 64))]
+        if self.chance(0.6):
+            out.append(([t for t in sorted({t for _, ts in body for t in ts}) if self.chance(0.7)], body))
+            self.random.shuffle(out)
+        return self.finished([2, 2], question, out, self.number(58, 70))
+
     def many_rows(self):
         """Products: some 64 rows, or a few more or less."""
         m, unary = self.number(6, 9), self.number(1, 2)
@@ -174,8 +223,8 @@ class Maker:
                 return one
 
     def next(self):
-        families = [(self.parts, 30), (self.singles, 25), (self.distinct, 8), (self.folding, 15), (self.many_rows, 6),
-                    (self.anything, 6), (self.refused, 10)]
+        families = [(self.parts, 26), (self.singles, 22), (self.distinct, 8), (self.folding, 13), (self.wide, 5),
+                    (self.crowd, 3), (self.alike, 3), (self.many_rows, 4), (self.anything, 6), (self.refused, 10)]
         return self.random.choices([f for f, _ in families], [w for _, w in families])[0]()
 
 

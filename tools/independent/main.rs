@@ -4,13 +4,15 @@
 //
 //     independent sound
 //     independent rewrite
+//     independent areas
+mod areas;
 mod reading;
 mod rewriting;
 
 use std::io::{Read, Write};
 
 fn main() {
-    let what = std::env::args().nth(1).expect("sound or rewrite");
+    let what = std::env::args().nth(1).expect("sound, rewrite or areas");
     let mut input = Vec::new();
     std::io::stdin().read_to_end(&mut input).unwrap();
     let mut out = std::io::BufWriter::new(std::io::stdout());
@@ -18,12 +20,20 @@ fn main() {
     while rest.len() >= 4 {
         let size = u32::from_le_bytes([rest[0], rest[1], rest[2], rest[3]]) as usize;
         let end = rest.len().min(4 + size);
-        let answer = if what == "sound" { sound(&rest[4..end]) } else { rewrite(&rest[4..end]) };
-        match answer {
-            Ok(text) => out.write_all(text.as_bytes()).unwrap(),
-            Err((number, place)) => writeln!(out, "refused {} at {}", number, place).unwrap(),
+        let book = &rest[4..end];
+        match what.as_str() {
+            "areas" => areas::write_areas(book, &mut out),
+            "rewrite" => write_lines(rewrite(book), &mut out),
+            _ => write_lines(sound(book), &mut out),
         }
         rest = &rest[end..];
+    }
+}
+
+fn write_lines(answer: Result<String, reading::Refusal>, out: &mut impl Write) {
+    match answer {
+        Ok(text) => out.write_all(text.as_bytes()).unwrap(),
+        Err((number, place)) => writeln!(out, "refused {} at {}", number, place).unwrap(),
     }
 }
 

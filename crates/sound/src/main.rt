@@ -3,8 +3,6 @@
 //     sound            standard input is a book
 //     sound many       standard input is many books, each after its length (4 bytes, little-endian)
 //     sound repeat     standard input is a book, read 10,000 times for timing: how often it was sound
-mod input;
-
 ghost use Prim.Native.Nat.{_≤_};
 use books::Reading;
 use books::read_book;

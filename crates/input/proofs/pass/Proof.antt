@@ -1,9 +1,9 @@
--- `sound::input::pass` is safe and ends: the scrap keeps its length, so that it can be lent again, and what is left to pass falls.
+-- `input::pass` is safe and ends: the scrap keeps its length, so that it can be lent again, and what is left to pass falls.
 use mathlib.Core.Path.{_≡_}
 use lib.ListN.{length}
 use borrow.Author.Needs.{needs}
-use Rattle.sound.proofs.input.pass.Statement.{statement}
-use Rattle.sound.proofs.input.pass.Tie as tie
+use Rattle.input.proofs.pass.Statement.{statement}
+use Rattle.input.proofs.pass.Tie as tie
 
 abbrev Inv-loop : tie.InvT-loop
 Inv-loop bytes scrap₀ left₀ scrap left = length scrap ≡ 4096

@@ -1,4 +1,4 @@
--- `sound::input::fill` meets its contract: what was read into a part counts bytes of the whole.
+-- `input::fill` meets its contract: what was read into a part counts bytes of the whole.
 use mathlib.Core.Path.{sym}
 use mathlib.Core.List.{List}
 use Prim.Native.Nat.{ℕ, _≤_}
@@ -7,8 +7,8 @@ use lib.Seq.{length-take-le}
 use native.Mathlib.Omega.{arith}
 use borrow.Author.Needs.{needs}
 use Rattle.io.specs.Counts.{Counts}
-use Rattle.sound.proofs.input.fill.Statement.{statement}
-use Rattle.sound.proofs.input.fill.Tie as tie
+use Rattle.input.proofs.fill.Statement.{statement}
+use Rattle.input.proofs.fill.Tie as tie
 
 counts : (n : ℕ) (bytes : List ℕ) → n ≤ length bytes → Counts n bytes
 counts n bytes within = (within, sym (length-take-le n bytes within))

@@ -1,0 +1,97 @@
+// Rewrites the questions of books over their summaries. Of each book it prints the listing of its
+// rewriting, or one line, `refused N at P`.
+//
+//     rewrite                          standard input is a book
+//     rewrite many                     standard input is many books, each after its length (4 bytes, little-endian)
+//     rewrite store ANSWER WITNESS     standard input is a book; its answer and its witness are also written to these files
+//     rewrite areas                    many books: what is left in the two lent areas (areas.rt)
+//     rewrite repeat                   many books, each several times, for timing (repeat.rt)
+mod areas; // what was left in the two lent areas
+mod bytes; // bytes and numbers out of a slice, whatever its length
+mod leads; // the need, and each summary's lead
+mod print; // the listing
+mod repeat; // the same book several times
+mod store; // answer and witness as files
+
+use check::same;
+use libc::STDIN_FILENO;
+use print::print_outcome;
+
+// One byte more than the longest sound book: what a book has past that changes nothing, it is
+// refused with 2.
+const ROOM: usize = 25041;
+
+fn one_book() {
+    let mut book = [0u8; ROOM];
+    let n = io::read_full(STDIN_FILENO, &mut book);
+    print_outcome(&book[..n]);
+}
+
+fn stored_book() {
+    let mut book = [0u8; ROOM];
+    let n = io::read_full(STDIN_FILENO, &mut book);
+    store::print_and_store(&book[..n]);
+}
+
+// The next of many books; answers whether there was one.
+fn next_book(areas: bool) -> bool {
+    let size = input::size();
+    if size == input::NO_MORE {
+        return false;
+    }
+    let mut book = [0u8; ROOM];
+    let n = input::fill(&mut book, size);
+    if areas {
+        areas::print_areas(&book[..n]);
+    } else {
+        print_outcome(&book[..n]);
+    }
+    input::pass(size - n as u64);
+    true
+}
+
+// A proved loop has to end, and nothing says that the input does: so it counts its turns down, from
+// a number that no input uses up.
+fn many_books(areas: bool) {
+    let mut turns = u64::MAX;
+    while turns > 0 && next_book(areas) {
+        turns -= 1;
+    }
+}
+
+// The next book and how often it is rewritten; answers whether there was one.
+fn next_repeated() -> bool {
+    let times = input::size();
+    let size = input::size();
+    if size == input::NO_MORE {
+        return false;
+    }
+    let mut book = [0u8; ROOM];
+    let n = input::fill(&mut book, size);
+    repeat::print_last(&book[..n], times);
+    input::pass(size - n as u64);
+    true
+}
+
+fn repeated_books() {
+    let mut turns = u64::MAX;
+    while turns > 0 && next_repeated() {
+        turns -= 1;
+    }
+}
+
+fn main() {
+    let mut word = [0u8; 8];
+    let n = os::arg(1, &mut word);
+    if same(&word[..n], b"many") {
+        many_books(false);
+    } else if same(&word[..n], b"areas") {
+        many_books(true);
+    } else if same(&word[..n], b"repeat") {
+        repeated_books();
+    } else if same(&word[..n], b"store") {
+        stored_book();
+    } else {
+        one_book();
+    }
+}
