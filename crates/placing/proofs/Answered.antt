@@ -15,10 +15,12 @@ use Rattle.placing.specs.Taking.{Enters, leftAfter, Affords, Open}
 use Rattle.placing.specs.Mapped.{laid}
 use Rattle.placing.specs.Answer.{AgreesOn, FromOn, Completion, Afforded, Failed, Answer}
 use Rattle.placing.specs.Steps.{Opened, Entering, Hopeless, Settled, entering, seeing, carrying, found, failed}
+use Rattle.placing.specs.Outlook.{Outlooks}
 use Rattle.placing.specs.declared.Reasons.{Reasons}
 use Rattle.placing.specs.declared.Placed.{Placed}
 use Rattle.placing.specs.declared.Rows.{Rows}
 use Rattle.placing.specs.declared.Entered.{Entered}
+use Rattle.placing.specs.declared.outlook.Outlook.{Outlook}
 use Rattle.placing.proofs.Guess.{Guess}
 use Rattle.placing.proofs.Open.{open-with, open-tail, affords-open}
 use Rattle.placing.proofs.Taken.{affords-free}
@@ -146,6 +148,10 @@ module _ (p : Task) (at : ℕ) (b : List ℕ) (from : ℕ) (rows : Rows) (more :
 -- the answer below, in the words of this subgoal
 pub answer-below : (p : Task) (at : ℕ) (h : List ℕ) (rows : Rows) (k : ℕ) (e : Entered) → Entering rows (rowOf p k) e → (r : Placed) → Answer p (at + 1) h 0 (e .rows) r → Answer p (suc at) h 0 (entering rows (rowOf p k)) r
 answer-below p at h rows k e n r a = rw (add-one at, n .after) at a
+
+-- seen to be in vain
+pub answer-vain : (p : Task) (at : ℕ) (b : List ℕ) (from : ℕ) (rows : Rows) (o : Outlook) → Outlooks p at b rows o → o .vain ≡ true → Answer p at b from rows (failed (o .why))
+answer-vain p at b from rows o s v = record { found = λ e. absurd (false≢true e); none = λ e. s .vain v from }
 
 -- nothing is left to place
 only-none : (p : Task) (at : ℕ) (v : ℕ → ℕ) (js : List ℕ) → Completes p zero at v js → [] ≡ js

@@ -6,6 +6,9 @@ pub mod Open
 pub mod Without
 pub mod Taken
 pub mod Crossing
+pub mod Total
+pub mod Vain
+pub mod Looking
 pub mod Refuted
 pub mod Laid
 pub mod Answered

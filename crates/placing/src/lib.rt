@@ -9,6 +9,8 @@ ghost use Rattle.placing.specs.Mapped.{FirstPlaces, Enough};
 ghost use Rattle.placing.specs.Answer.{Answer, PlacesFrom};
 ghost use Rattle.placing.specs.Steps.{stood, noting, blaming, shorting, joining, seeing, carrying, rowsOf, entryOf, Opened, Entering, Settled, noReasons, found, failed};
 
+mod outlook; // what is seen to be in vain
+
 // The places of the source subgoals, or that there are none.
 pub struct Places {
     pub ok: bool,
@@ -268,8 +270,10 @@ fn place(
     if widths.len() <= at {
         return whole();
     }
-    let wide = width(widths[at]);
-    let last = lasts[at];
+    let seen = outlook::look(source, widths, lasts, target, own, at, &b, rows);
+    if seen.vain {
+        return none(seen.why);
+    }
     let mut why = no_reasons();
     'candidates: for k in from..own.len() {
         if target[9 * k] != source[9 * at] {
@@ -282,7 +286,7 @@ fn place(
         }
         let mut g = b;
         let mut new: u64 = 0;
-        for a in 0..wide {
+        for a in 0..width(widths[at]) {
             let x = source[9 * at + 1 + a];
             let y = target[9 * k + 1 + a];
             let have = stands(&g, x);
@@ -294,9 +298,9 @@ fn place(
                 continue 'candidates;
             }
         }
-        let h = opened(g, last);
+        let h = opened(g, lasts[at]);
         let below = place(source, widths, lasts, target, own, at + 1, h, 0, e.rows);
-        let r = carried(below, at, k, last);
+        let r = carried(below, at, k, lasts[at]);
         if settled(r.ok, r.why, new, e.free) {
             return r;
         }
