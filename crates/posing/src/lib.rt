@@ -4,9 +4,8 @@ ghost use Rattle.posing.specs.Targets.{Targets, Owners};
 
 mod dominance; // which rows dominate which
 
-use books::parts::part_of;
-use builders::bodies::slot_words;
-use builders::heads::head_bindings;
+use asking::question_bindings;
+use asking::question_source;
 use choosing::Chosen;
 use choosing::choose;
 use dominance::dominance;
@@ -17,12 +16,11 @@ fn choose_onto(book: &[u8], rows: &[u64], n: usize, target: &[u64], own: &[u8]) 
     requires { ⌜ Asked (now book) (now rows) n × Targets (now book) (now rows) n (now target) × Owners (now book) (now rows) n (now own) ⌝ }
     ensures { λ r. ⌜ RowsChosen (now (book .entry)) (now (rows .entry)) n r ⌝ }
 {
-    let question = part_of(book, 1);
     let mut source = [0u64; 108];
     let mut widths = [0u8; 12];
-    let k = slot_words(question, part_of(book, 0), &mut source, &mut widths);
+    let k = question_source(book, &mut source, &mut widths);
     let lasts = [0u8; 12];
-    let b = head_bindings(question);
+    let b = question_bindings(book);
     let dom = dominance(book, rows, n, target);
     choose(
         &source[..9 * k],

@@ -54,10 +54,10 @@ left-out-alike b c need h = left-out-admitted (b .need) (b .summaries) (c .summa
 
 module _ {book other : List ℕ} {b c : Book} (sound : SoundBook book b) (also : SoundBook other c) (answer witness : ℕ)
     (question : b .question ≡ c .question) (need : b .need ≡ c .need) (h : SameButLeftOut (b .need) (b .summaries) (c .summaries)) where
-  moved : (P : Summaries → Rule ℕ → Type 0) → P (admittedOf b) (b .question) → P (admittedOf c) (c .question)
+  pub moved : (P : Summaries → Rule ℕ → Type 0) → P (admittedOf b) (b .question) → P (admittedOf c) (c .question)
   moved P p = subst (λ q. P (admittedOf c) q) question (subst (λ s. P s (b .question)) (left-out-alike b c need h) p)
 
-  moved-back : (P : Summaries → Rule ℕ → Type 0) → P (admittedOf c) (c .question) → P (admittedOf b) (b .question)
+  pub moved-back : (P : Summaries → Rule ℕ → Type 0) → P (admittedOf c) (c .question) → P (admittedOf b) (b .question)
   moved-back P p = subst (λ s. P s (b .question)) (sym (left-out-alike b c need h)) (subst (λ q. P (admittedOf c) q) (sym question) p)
 
   pub left-out-nine : Refused book answer witness 9 0 → Refused other answer witness 9 0
