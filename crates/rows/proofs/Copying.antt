@@ -1,11 +1,11 @@
--- What the small loops of the listing leave: bindings that are fixed, places that are spliced, words that are written.
-use mathlib.Core.Path.{_≡_, refl, sym, ap, ap₂, _∙_}
-use mathlib.Core.List.{List, _++_}
-use Prim.Native.Nat.{ℕ, suc, _+_, _*_, _<_, _≤_}
+-- What the small loops of the listing leave: bindings that are fixed, words that are written.
+use mathlib.Core.Path.{_≡_, refl, ap, ap₂, _∙_}
+use mathlib.Core.List.{List}
+use Prim.Native.Nat.{ℕ, _+_, _*_, _<_, _≤_}
 use native.Mathlib.Omega.{arith}
 use native.Mathlib.Numerals.{add-one}
-use lib.ListN.{length, getD, set, take, drop, replicate}
-use lib.Seq.{length-take-le, drop-cons, set-at, append-snoc, take-suc, paste, paste-suc}
+use lib.ListN.{length, getD, set, replicate}
+use lib.Seq.{paste, paste-suc}
 use Rattle.rows.specs.Steps.{binding, fixing}
 
 module _ (source target ks : List ℕ) where
@@ -19,20 +19,6 @@ module _ (source target ks : List ℕ) where
 
   pub fixing-end : (g : List ℕ) (i j : ℕ) → i ≤ j → j ≤ i → g ≡ fixing source target ks i → g ≡ fixing source target ks j
   fixing-end g i j h l e = let q : j ≡ i = omega arith in rw q e
-
-module _ (kept others : List ℕ) where
-  pub splice-start : others ≡ take 0 kept ++ drop 0 others
-  splice-start = refl
-
-  pub splice-step : (r : List ℕ) (i : ℕ) → i < length kept → i < length others → r ≡ take i kept ++ drop i others → set r i (getD kept i 0) ≡ take (i + 1) kept ++ drop (i + 1) others
-  splice-step r i h m e =
-      ap (λ l. set l i (getD kept i 0)) (e ∙ ap (λ l. take i kept ++ l) (drop-cons others i 0 m))
-      ∙ set-at (take i kept) (getD others i 0) (drop (suc i) others) (getD kept i 0) i (length-take-le i kept (omega arith))
-      ∙ sym (append-snoc (take i kept) (getD kept i 0) (drop (suc i) others))
-      ∙ rw (add-one) (ap (λ l. l ++ drop (suc i) others) (sym (take-suc kept i 0 h)))
-
-  pub splice-end : (r : List ℕ) (i j : ℕ) → i ≤ j → j ≤ i → r ≡ take i kept ++ drop i others → r ≡ take j kept ++ drop j others
-  splice-end r i j h l e = let q : j ≡ i = omega arith in rw q e
 
 -- words s, pasted one by one
 module _ (d : List ℕ) (at : ℕ) (s : List ℕ) where

@@ -1,5 +1,5 @@
 -- The bindings that fix the first places: which values extend them.
-use mathlib.Core.Path.{_≡_, refl, sym, _∙_}
+use mathlib.Core.Path.{_≡_, refl, sym, ap, _∙_}
 use mathlib.Core.Bool.{Bool, true, false, cond}
 use mathlib.Core.List.{List}
 use Prim.Native.Nat.{ℕ, zero, suc, _+_, _*_, _<_}
@@ -8,12 +8,13 @@ use native.Mathlib.Decide.{ℕ-discrete, decLt}
 use lib.ListN.{length, getD, set, replicate, length-set, length-replicate, getD-replicate, List·getD-eq-default}
 use lib.Seq.{getD-set-same, getD-set-other}
 use lib.Dec.{ltb}
-use borrow.Author.Tests.{ltb-true, ltb-false}
-use Rattle.placing.specs.Task.{Task, widthOf, valueOf, Agrees, Extends}
-use Rattle.placing.proofs.Slots.{value-slot, value-word}
+use borrow.Author.Tests.{ltb-true, lt-ltb}
+use Rattle.placing.specs.Task.{Task, sourceRelation, targetRelation, widthOf, valueOf, Agrees, Extends}
+use Rattle.placing.proofs.Slots.{value-slot}
+use Rattle.rows.specs.RowPlaces.{headTerm, OnTargets}
 use Rattle.rows.specs.Steps.{binding, fixing}
 
-pub nothing-bound : (x : ℕ) → _≡_ {A = ℕ} (getD (replicate 64 0) x 0) 0
+nothing-bound : (x : ℕ) → _≡_ {A = ℕ} (getD (replicate 64 0) x 0) 0
 nothing-bound x = go (decLt x 64)
   where
     go : Dec (x < 64) → _≡_ {A = ℕ} (getD (replicate 64 0) x 0) 0
@@ -40,30 +41,16 @@ module _ (g : List ℕ) (long : length g ≡ 64) (x y : ℕ) (v : ℕ → ℕ) w
           slot (no o) = e z (λ u. n (getD-set-other g x z y 0 o ∙ u)) ∙ sym (getD-set-other g x z y 0 o)
       go false q z n = e z n
 
-  -- v₀ is one that does both
-  module _ (v₀ : ℕ → ℕ) (e₀ : Extends g v₀) (a₀ : valueOf v₀ x ≡ y) (solid : y ≡ 0 → ⊥) where
-    binding-value : Extends (binding g x y) v → valueOf v x ≡ y
-    binding-value e = go (ltb x 64) refl e
-      where
-        go : (t : Bool) → ltb x 64 ≡ t → Extends (cond t (set g x y) g) v → valueOf v x ≡ y
-        go true q e =
-            let here : getD (set g x y) x 0 ≡ y = getD-set-same g x y 0 (omega (arith, ltb-true x 64 q)) in
-            value-slot v x (ltb-true x 64 q) ∙ e x (λ u. solid (sym here ∙ u)) ∙ here
-        go false q e = value-word v x (ltb-false x 64 q) ∙ sym (value-word v₀ x (ltb-false x 64 q)) ∙ a₀
+-- A slot has the word, and the others keep theirs.
+module _ (g : List ℕ) (long : length g ≡ 64) (x y : ℕ) (low : x < 64) where
+  binding-is : binding g x y ≡ set g x y
+  binding-is = ap (λ t. cond t (set g x y) g) (lt-ltb x 64 low)
 
-    binding-before : Extends (binding g x y) v → Extends g v
-    binding-before e z n = go (ltb x 64) refl e
-      where
-        go : (t : Bool) → ltb x 64 ≡ t → Extends (cond t (set g x y) g) v → v z ≡ getD g z 0
-        go true q e = slot (ℕ-discrete z x)
-          where
-            slot : Dec (z ≡ x) → v z ≡ getD g z 0
-            slot (yes o) =
-                let here : getD (set g x y) x 0 ≡ y = getD-set-same g x y 0 (omega (arith, ltb-true x 64 q)) in
-                let old : y ≡ getD g x 0 = sym a₀ ∙ value-slot v₀ x (ltb-true x 64 q) ∙ e₀ x (rw o at n) in
-                rw o (e x (λ u. solid (sym here ∙ u)) ∙ here ∙ old)
-            slot (no o) = e z (λ u. n (sym (getD-set-other g x z y 0 o) ∙ u)) ∙ getD-set-other g x z y 0 o
-        go false q e = e z n
+  binding-here : getD (binding g x y) x 0 ≡ y
+  binding-here = ap (λ l. getD l x 0) binding-is ∙ getD-set-same g x y 0 (omega arith)
+
+  binding-other : (z : ℕ) → (z ≡ x → ⊥) → getD (binding g x y) z 0 ≡ getD g z 0
+  binding-other z o = ap (λ l. getD l z 0) binding-is ∙ getD-set-other g x z y 0 o
 
 -- A source subgoal of one term.
 module _ (p : Task) (i k : ℕ) (single : widthOf p i ≡ 1) (v : ℕ → ℕ) where
@@ -73,10 +60,9 @@ module _ (p : Task) (i k : ℕ) (single : widthOf p i ≡ 1) (v : ℕ → ℕ) w
       let t : 9 * k + 1 + 0 ≡ 9 * k + 1 = omega arith in
       rw (s, t) at (a .terms 0 (omega (arith, single)))
 
-  -- the relations agree, since some values put the subgoal there
-  term-only : (v₀ : ℕ → ℕ) → Agrees p v₀ i k → valueOf v (getD (p .source) (9 * i + 1) 0) ≡ getD (p .target) (9 * k + 1) 0 → Agrees p v i k
-  term-only v₀ a e = record {
-    relation = a .relation;
+  pub term-only : targetRelation p k ≡ sourceRelation p i → valueOf v (getD (p .source) (9 * i + 1) 0) ≡ getD (p .target) (9 * k + 1) 0 → Agrees p v i k
+  term-only same e = record {
+    relation = same;
     terms = λ b h. (
         let z : b ≡ 0 = omega (arith, single) in
         let s : 9 * i + 1 + 0 ≡ 9 * i + 1 = omega arith in
@@ -110,24 +96,31 @@ module _ (p : Task) (ks : List ℕ) where
       binding-extends (fixed j) (fixing-long j) (termOf j) (wordOf j) v
       (fixing-forced j (λ i h. single i (omega arith)) v (λ i h. a i (omega arith))) (only-term p j (getD ks j 0) (single j (omega arith)) v (a j (omega arith)))
 
-  -- where some values put them there, and no word is 0
-  pub fixing-fits : (j : ℕ) → ((i : ℕ) → i < j → widthOf p i ≡ 1) → (v₀ : ℕ → ℕ) → AgreeTo p j ks v₀ → ((i : ℕ) → i < j → getD (p .target) (9 * getD ks i 0 + 1) 0 ≡ 0 → ⊥)
-      → (v : ℕ → ℕ) → Extends (fixing (p .source) (p .target) ks j) v → AgreeTo p j ks v
+  -- each place's slot has its target's word, since no two have one slot
+  fixing-word : (j : ℕ) → ((i : ℕ) → i < j → headTerm p i < 64) → ((i k : ℕ) → i < k → k < j → headTerm p i ≡ headTerm p k → ⊥) → (i : ℕ) → i < j → getD (fixed j) (termOf i) 0 ≡ wordOf i
   unfolding fixing
-  fixing-fits zero single v₀ a₀ solid v e = λ i h. absurd (omega arith)
-  fixing-fits (suc j) single v₀ a₀ solid v e = last (fixing-fits j (λ i h. single i (omega arith)) v₀ (λ i h. a₀ i (omega arith)) (λ i h. solid i (omega arith)) v)
+  fixing-word zero slots apart i l = absurd (omega arith)
+  fixing-word (suc j) slots apart i l = go (decLt i j) (fixing-word j (λ a b. slots a (omega arith)) (λ a k b c. apart a k b (omega arith)) i)
     where
-      e₀ : Extends (fixing (p .source) (p .target) ks j) v₀
-      e₀ = fixing-forced j (λ i h. single i (omega arith)) v₀ (λ i h. a₀ i (omega arith))
+      go : Dec (i < j) → (i < j → getD (fixed j) (termOf i) 0 ≡ wordOf i) → getD (binding (fixed j) (termOf j) (wordOf j)) (termOf i) 0 ≡ wordOf i
+      go (yes o) before = binding-other (fixed j) (fixing-long j) (termOf j) (wordOf j) (slots j (omega arith)) (termOf i) (apart i j o (omega arith)) ∙ before o
+      go (no o) before = let q : i ≡ j = omega arith in rw q (binding-here (fixed j) (fixing-long j) (termOf j) (wordOf j) (slots j (omega arith)))
 
-      t₀ : valueOf v₀ (getD (p .source) (9 * j + 1) 0) ≡ getD (p .target) (9 * getD ks j 0 + 1) 0
-      t₀ = only-term p j (getD ks j 0) (single j (omega arith)) v₀ (a₀ j (omega arith))
+-- The bindings put the first places of a head on targets of the head's relation.
+module _ (p : Task) (h j : ℕ) (ks : List ℕ) (on : OnTargets p h j ks) where
+  pub fixing-fits : (v : ℕ → ℕ) → Extends (fixing (p .source) (p .target) ks j) v → AgreeTo p j ks v
+  fixing-fits v e i l = term-only p i (getD ks i 0) (on .task .single i below) v (on .relation i l) (value-slot v (headTerm p i) slot ∙ e (headTerm p i) (λ z. solid (sym word ∙ z)) ∙ word)
+    where
+      below : i < h
+      below = omega (arith, on .few)
 
-      last : (Extends (fixing (p .source) (p .target) ks j) v → AgreeTo p j ks v) → AgreeTo p (suc j) ks v
-      last rest i h = go (decLt i j)
-        where
-          go : Dec (i < j) → Agrees p v i (getD ks i 0)
-          go (yes l) = rest (binding-before (fixed j) (fixing-long j) (termOf j) (wordOf j) v v₀ e₀ t₀ (solid j (omega arith)) e) i l
-          go (no l) =
-              let q : i ≡ j = omega arith in
-              rw q (term-only p j (getD ks j 0) (single j (omega arith)) v v₀ (a₀ j (omega arith)) (binding-value (fixed j) (fixing-long j) (termOf j) (wordOf j) v v₀ e₀ t₀ (solid j (omega arith)) e))
+      slot : headTerm p i < 64
+      slot = on .task .slots i below
+
+      word : getD (fixing (p .source) (p .target) ks j) (headTerm p i) 0 ≡ getD (p .target) (9 * getD ks i 0 + 1) 0
+      word = fixing-word p ks j (λ a b. on .task .slots a (omega (arith, on .few))) (λ a k b c. on .task .apart a k b (omega (arith, on .few))) i l
+
+      solid : getD (p .target) (9 * getD ks i 0 + 1) 0 ≡ 0 → ⊥
+      solid z =
+          let t : 9 * getD ks i 0 + 1 + 0 ≡ 9 * getD ks i 0 + 1 = omega arith in
+          on .task .sized .solid (getD ks i 0) 0 (on .within i l) (omega arith) (rw t z)

@@ -1,10 +1,12 @@
 -- Lists compared by their fronts.
-use mathlib.Core.Path.{_≡_, refl, ap, ap₂}
+use mathlib.Core.Path.{_≡_, refl, sym, ap, ap₂, _∙_, subst}
 use mathlib.Core.Logic.{_⊎_, inl, inr, ⊎-elim}
 use mathlib.Core.List.{List, [], _∷_, _++_, head-eq-of-cons-eq, tail-eq-of-cons-eq}
-use Prim.Native.Nat.{ℕ, zero, suc, _<_}
+use Prim.Native.Nat.{ℕ, zero, suc, _+_, _<_, _≤_}
 use native.Mathlib.Omega.{arith}
-use lib.ListN.{length, getD, take, drop}
+use native.Mathlib.Numerals.{add-one}
+use lib.ListN.{length, getD, set, take, drop, take-append-drop}
+use lib.Seq.{length-take-le, take-suc, take-suc-set}
 use Rattle.words.specs.Order.{ListBefore}
 
 module _ {A : Type 0} (before : A → A → Type 0) where
@@ -31,15 +33,17 @@ module _ {A : Type 0} (before : A → A → Type 0) where
   front-split (suc j) (x ∷ l) (y ∷ m) e (inl h) = inl (inl h)
   front-split (suc j) (x ∷ l) (y ∷ m) e (inr h) = ⊎-elim (λ k. inl (inr (h .0, k))) (λ k. inr (ap₂ _∷_ (h .0) (k .0), k .1)) (front-split j l m (omega arith) (h .1))
 
-  -- the fronts of lists in order are the same or in order
-  pub front-order : (j : ℕ) (l m : List A) → (l ≡ m) ⊎ ListBefore before l m → (take j l ≡ take j m) ⊎ ListBefore before (take j l) (take j m)
-  front-order j l m (inl e) = inl (ap (take j) e)
-  front-order zero l m (inr h) = inl refl
-  front-order (suc j) [] [] (inr h) = absurd h
-  front-order (suc j) [] (y ∷ m) (inr h) = inr tt
-  front-order (suc j) (x ∷ l) [] (inr h) = absurd h
-  front-order (suc j) (x ∷ l) (y ∷ m) (inr (inl h)) = inr (inl h)
-  front-order (suc j) (x ∷ l) (y ∷ m) (inr (inr h)) = ⊎-elim (λ e. inl (ap₂ _∷_ (h .0) e)) (λ k. inr (inr (h .0, k))) (front-order j l m (inr (h .1)))
+-- where the fronts are in order the lists are
+pub front-decides : (n : ℕ) (l m : List ℕ) → n ≤ length l → n ≤ length m → ListBefore _<_ (take n l) (take n m) → ListBefore _<_ l m
+front-decides n l m a b h = subst (ListBefore _<_ l) (take-append-drop n m)
+    (subst (λ x. ListBefore _<_ x (take n m ++ drop n m)) (take-append-drop n l) (front-before _<_ (take n l) (take n m) (drop n l) (drop n m) (length-take-le n l a ∙ sym (length-take-le n m b)) h))
+
+-- a front with one more
+pub front-last : (l : List ℕ) (j : ℕ) → j < length l → take (j + 1) l ≡ take j l ++ (getD l j 0 ∷ [])
+front-last l j h = rw (add-one j) (take-suc l j 0 h)
+
+pub front-put : (l : List ℕ) (j k : ℕ) → j < length l → take (j + 1) (set l j k) ≡ take j l ++ (k ∷ [])
+front-put l j k h = rw (add-one j) (take-suc-set l j k h)
 
 -- Where the fronts are the same, the number at the place after them decides, or it is the same too.
 pub split-later : (j : ℕ) (a b : List ℕ) → length a ≡ length b → j < length a → take j a ≡ take j b → ListBefore _<_ (drop j a) (drop j b)

@@ -1,9 +1,13 @@
 pub mod Fronts
 pub mod OneUse
 pub mod Fixing
+pub mod RowFronts
+pub mod BeginLaw
+pub mod PlaceLaw
+pub mod FillLaw
 pub mod NextLaw
-pub mod StartLaw
 pub mod TaskLaws
+pub mod HeadLaws
 pub mod AtTerms
 pub mod RowTies
 pub mod RowOrder

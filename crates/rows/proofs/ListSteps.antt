@@ -4,18 +4,16 @@ use mathlib.Core.Bool.{Bool, true, false}
 use mathlib.Core.List.{List}
 use Prim.Native.Nat.{ℕ, _+_, _*_, _<_, _≤_}
 use native.Mathlib.Omega.{arith}
-use lib.ListN.{length, take, replicate}
+use lib.ListN.{length, take}
 use lib.Seq.{paste, length-paste}
 use Rattle.words.specs.Words.{Term, Rule}
 use Rattle.placing.specs.Task.{Task}
-use Rattle.placing.specs.Answer.{PlacesFrom}
 use Rattle.placing.specs.declared.Places.{Places}
 use Rattle.rows.specs.RowTask.{TaskOf}
-use Rattle.rows.specs.RowPlaces.{HeadTask, RowPlaces, AtRow, NextPlaces}
+use Rattle.rows.specs.RowPlaces.{HeadTask, RowPlaces, AtRow, StartPlaces, NextPlaces}
 use Rattle.rows.specs.Steps.{rowWords}
 use Rattle.rows.specs.RowsAfter.{mostRows, Asked, Promised}
-use Rattle.rows.proofs.TaskLaws.{row-ready}
-use Rattle.rows.proofs.StartLaw.{start-found}
+use Rattle.rows.proofs.HeadLaws.{row-ready}
 use Rattle.rows.proofs.RowWords.{row-long}
 use Rattle.rows.proofs.Listing.{Listing, listing-start, listing-more, listing-end, listing-over}
 
@@ -33,8 +31,8 @@ pub head-task : {p : Task} {h found area : ℕ} → Asked p h found area → Hea
 head-task {p} {h} asked = row-ready (asked .rule) (asked .question) (asked .terms) p h (asked .task)
 
 module _ (p : Task) (h n found : ℕ) (before : List ℕ) (asked : Asked p h found (length before)) where
-  pub state-start : (r : Places) → PlacesFrom p 0 (replicate 64 0) 0 r → State p h n found before before (r .ok) (r .ks) found
-  state-start r a = record { small = asked .few; long = refl; row = λ ok. start-found p h (head-task asked) r a ok .holds; each = λ v q ts w. listing-start n v q ts p h w found before r a }
+  pub state-start : (r : Places) → StartPlaces p h r → State p h n found before before (r .ok) (r .ks) found
+  state-start r a = record { small = asked .few; long = refl; row = λ ok. a .found ok .holds; each = λ v q ts w. listing-start n v q ts p h w found before r a }
 
   module _ (out ks : List ℕ) (count : ℕ) (s : State p h n found before out true ks count) where
     pub at-row : AtRow p h ks

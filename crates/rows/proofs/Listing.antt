@@ -4,7 +4,7 @@ use mathlib.Core.Bool.{Bool, true, false}
 use mathlib.Core.List.{List, [], _∷_, _++_, append-assoc, append-nil}
 use Prim.Native.Nat.{ℕ, _+_, _*_, _-_, _≤_}
 use native.Mathlib.Omega.{arith}
-use lib.ListN.{length, take, replicate, length-append, take-append-drop}
+use lib.ListN.{length, take, length-append, take-append-drop}
 use lib.Seq.{take-all, take-at, paste}
 use borrow.Author.Tests.{lt-ltb, le-ltb}
 use Rattle.words.specs.Words.{Term, Subgoal, Rule}
@@ -12,15 +12,12 @@ use Rattle.words.specs.Order.{RowBefore}
 use Rattle.words.specs.Enumerate.{Enumerates}
 use Rattle.words.specs.Orders.{rowOrder}
 use Rattle.placing.specs.Task.{Task}
-use Rattle.placing.specs.Answer.{PlacesFrom}
 use Rattle.placing.specs.declared.Places.{Places}
 use Rattle.rows.specs.RowTask.{TaskOf}
-use Rattle.rows.specs.RowPlaces.{HeadTask, NextPlaces}
+use Rattle.rows.specs.RowPlaces.{StartPlaces, NextPlaces}
 use Rattle.rows.specs.Steps.{rowWords}
 use Rattle.rows.specs.RowsAfter.{RowBy, mostRows, RowsAfter}
 use Rattle.rows.proofs.AtTerms.{Stand}
-use Rattle.rows.proofs.TaskLaws.{row-ready}
-use Rattle.rows.proofs.StartLaw.{start-found, start-none}
 use Rattle.rows.proofs.RowOrder.{rowOf, start-row, start-empty, next-row, next-empty}
 use Rattle.rows.proofs.RowWords.{row-words}
 use Rattle.rows.proofs.RowsExist.{rows-exist}
@@ -38,24 +35,21 @@ pub record Listing (n : ℕ) (v q : Rule ℕ) (ts : List (Term ℕ)) (h found : 
   pub last : ok ≡ false → rest ≡ []
 
 module _ (n : ℕ) (v q : Rule ℕ) (ts : List (Term ℕ)) (p : Task) (h : ℕ) (w : TaskOf v q ts p h) (found : ℕ) (before : List ℕ) where
-  -- the start: nothing is written, and the first mapping gives the first row
-  pub listing-start : (r : Places) → PlacesFrom p 0 (replicate 64 0) 0 r → Listing n v q ts h found before before (r .ok) (r .ks) found
-  listing-start r answer = record {
+  -- the start: nothing is written, and the first row is found
+  pub listing-start : (r : Places) → StartPlaces p h r → Listing n v q ts h found before before (r .ok) (r .ks) found
+  listing-start r a = record {
     done = [];
     rest = rows .0;
     all = rows .1;
     counted = omega arith;
     words = sym (take-append-drop (9 * found) before);
     next = λ ok. (
-        let f = start-row n v q ts p h w (take h (r .ks)) (start-found p h ready r answer ok) in
+        let f = start-row n v q ts p h w (take h (r .ks)) (a .found ok) in
         let g = first-of rowOrder (rows .0) (rows .1) (rowOf n (f .0)) (f .2) in
         (f .0, g .0, f .1, g .1));
-    last = λ fails. none-of rowOrder (rows .0) (rows .1) (start-empty n v q ts p h w (start-none p h ready r answer fails));
+    last = λ fails. none-of rowOrder (rows .0) (rows .1) (start-empty n v q ts p h w (a .none fails));
   }
     where
-      ready : HeadTask p h
-      ready = row-ready v q ts p h w
-
       rows : (l : List (Subgoal (Term ℕ))) × Enumerates (RowBy n v q) RowBefore l
       rows = rows-exist n v q (w .safe)
 

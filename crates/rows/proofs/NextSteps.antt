@@ -1,47 +1,65 @@
--- The steps of the search for the next row, as its code takes them.
-use mathlib.Core.Path.{_≡_, sym, subst}
-use mathlib.Core.Bool.{true, false}
-use mathlib.Core.List.{List, _++_}
-use Prim.Native.Nat.{ℕ, suc, _+_, _*_, _-_, _<_, _≤_}
+-- The steps of the search for the first row and for the next, as its code takes them.
+use mathlib.Core.Path.{_≡_, refl, sym, ap, _∙_, subst}
+use mathlib.Core.Bool.{true, false, true≢false, false≢true}
+use mathlib.Core.List.{List}
+use Prim.Native.Nat.{ℕ, suc, _+_, _-_, _<_, _≤_}
 use native.Mathlib.Omega.{arith}
-use lib.ListN.{length, getD, take, drop}
-use lib.Seq.{getD-take}
+use lib.ListN.{length, getD, take}
+use lib.Seq.{getD-take, take-take}
 use Rattle.words.specs.Order.{ListBefore, First}
 use Rattle.placing.specs.Task.{Task, targets}
-use Rattle.placing.specs.Answer.{PlacesFrom}
 use Rattle.placing.specs.declared.Places.{Places}
-use Rattle.rows.specs.RowPlaces.{LaterPlaces, AtRow, NextPlaces}
-use Rattle.rows.specs.Steps.{fixing, InReach}
-use Rattle.rows.proofs.NextLaw.{Gone, row-stands, gone-more, next-none, next-found}
+use Rattle.rows.specs.RowPlaces.{HeadTask, PlacesWith, AtRow, RowFront, AtFront, OnTargets, Begins, NextPlace, StartPlaces, NextPlaces}
+use Rattle.rows.specs.Steps.{InReach}
+use Rattle.rows.proofs.Fronts.{front-put}
+use Rattle.rows.proofs.RowFronts.{row-front, row-stands}
+use Rattle.rows.proofs.NextLaw.{Gone, gone-more, next-none, next-found}
+
+-- at the start no place is bound
+module _ (p : Task) (h : ℕ) (ready : HeadTask p h) (ks : List ℕ) where
+  pub start-on : OnTargets p h 0 ks
+  start-on = record { task = ready; few = omega arith; within = λ i l. absurd (omega arith); relation = λ i l. absurd (omega arith) }
+
+  pub start-at : Begins p h 0 ks true → AtFront p h 0 ks
+  start-at b = record { task = ready; few = omega arith; front = b .exactly .0 refl }
+
+  pub start-none : Begins p h 0 ks false → StartPlaces p h record { ok = false; ks = ks }
+  start-none b = record { found = λ e. absurd (false≢true e); none = λ e js y. false≢true (b .exactly .1 (row-front p h js y 0)) }
+
+  pub start-found : (all : List ℕ) → First (PlacesWith p h 0 ks) (ListBefore _<_) (take h all) → StartPlaces p h record { ok = true; ks = all }
+  start-found all f = record { found = λ e. record { holds = f .holds .row; least = λ js y. f .least js record { row = y; begins = refl } }; none = λ e. absurd (true≢false e) }
 
 module _ (p : Task) (h : ℕ) (ks : List ℕ) (at : AtRow p h ks) where
   -- the head's places have targets
   pub place-within : (i : ℕ) → i < h → getD ks i 0 < targets p
   place-within i l = rw (getD-take h ks i 0 l) at (row-stands p h (at .task) (take h ks) (at .row) i l .within)
 
-  pub in-reach : (j : ℕ) → j ≤ h → InReach (p .target) ks j
-  in-reach j l = record { few = omega (arith, at .task .short); targets = λ i o. omega (arith, place-within i (omega arith), at .task .sized .target) }
+  pub row-reach : InReach (p .target) ks h
+  row-reach = record { few = at .task .short; targets = λ i l. omega (arith, place-within i l, at .task .sized .target) }
 
-  pub in-source : (j : ℕ) → j ≤ h → 9 * j ≤ length (p .source)
-  in-source j l = omega (arith, at .task .sized .source, at .task .inside)
+  -- its first places begin a row
+  pub row-at : (j : ℕ) → j ≤ h → AtFront p h j ks
+  row-at j l = record { task = at .task; few = l; front = subst (RowFront p h) (take-take j h ks l) (row-front p h (take h ks) (at .row) j) }
 
   module _ (long : length ks ≡ 96) where
     pub found-none : (j : ℕ) → j ≤ 0 → Gone p h ks j → NextPlaces p h ks record { ok = false; ks = ks }
-    found-none j l gone = record { found = λ e. absurd (let z : _≡_ {A = ℕ} 0 1 = cc in omega arith); none = λ e. next-none p h (at .task) ks long (let q : 0 ≡ j = omega arith in rw q gone) }
+    found-none j l gone = record { found = λ e. absurd (false≢true e); none = λ e. next-none p h (at .task) ks long (let q : 0 ≡ j = omega arith in rw q gone) }
 
     -- place j - 1 is tried, the later ones being gone
-    module _ (j : ℕ) (some : 0 < j) (low : j ≤ h) (gone : Gone p h ks j) (g : List ℕ) (fixed : g ≡ fixing (p .source) (p .target) ks (j - 1)) (r : Places) (answer : PlacesFrom p (j - 1) g (getD ks (j - 1) 0 + 1) r) where
-      here : PlacesFrom p (j - 1) (fixing (p .source) (p .target) ks (j - 1)) (getD ks (j - 1) 0 + 1) r
-      here = rw fixed at answer
-
+    module _ (j : ℕ) (some : 0 < j) (low : j ≤ h) (gone : Gone p h ks j) (r : Places) (place : NextPlace p h (j - 1) ks (getD ks (j - 1) 0 + 1) r) where
       later : Gone p h ks (suc (j - 1))
       later = let e : suc (j - 1) ≡ j = omega arith in rw e gone
 
       pub found-not : r .ok ≡ false → Gone p h ks (j - 1)
-      found-not = gone-more p h (at .task) ks long (j - 1) (omega arith) r here later
+      found-not = gone-more p h (at .task) ks long (j - 1) (omega arith) later r place
 
-      pub found-row : r .ok ≡ true → (all : List ℕ) → all ≡ take (j - 1) ks ++ drop (j - 1) (r .ks) → NextPlaces p h ks record { ok = true; ks = all }
-      found-row ok all e = record {
-        found = λ t. subst (λ l. First (LaterPlaces p h ks) (ListBefore _<_) (take h l)) (sym e) (next-found p h (at .task) ks long (j - 1) (omega arith) r here later (at .row) ok);
-        none = λ f. absurd (let z : _≡_ {A = ℕ} 0 1 = cc in omega arith);
-      }
+      module _ (ok : r .ok ≡ true) where
+        pub found-at : AtFront p h (j - 1 + 1) (r .ks)
+        found-at = record {
+          task = at .task;
+          few = omega arith;
+          front = subst (RowFront p h) (sym (ap (take (j - 1 + 1)) (place .found ok .1) ∙ front-put ks (j - 1) (place .found ok .0) (omega (arith, at .task .short)))) (place .found ok .2 .holds .front);
+        }
+
+        pub found-row : (all : List ℕ) → First (PlacesWith p h (j - 1 + 1) (r .ks)) (ListBefore _<_) (take h all) → NextPlaces p h ks record { ok = true; ks = all }
+        found-row all f = record { found = λ e. next-found p h (at .task) ks long (j - 1) (omega arith) later r place ok (take h all) f; none = λ e. absurd (true≢false e) }

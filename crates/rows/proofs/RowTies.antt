@@ -5,11 +5,12 @@ use mathlib.Core.Option.{some}
 use mathlib.Core.List.{List, [], _∷_, _++_, map, head-eq-of-cons-eq, List·Memᴰ·head, List·Memᴰ·tail, List·Memᴰ·not-nil, Memᴰ·map, Memᴰ·of-map, Memᴰ·cast, Memᴰ·append-right}
 use Prim.Native.Nat.{ℕ}
 use lib.ListN.{length, length-map}
-use Rattle.words.specs.Words.{_∈_, Term, var, con, Subgoal, Rule, DistinctVariables, Fits, Listed, becomes, each, Yields}
+use Rattle.words.specs.Words.{_∈_, Term, con, Subgoal, Rule, Fits, Listed, becomes, each, Yields}
 use Rattle.placing.specs.Task.{Task}
 use Rattle.rows.specs.RowTask.{alone, placed, onto, TaskOf}
 use Rattle.rows.specs.RowPlaces.{RowPlaces}
 use Rattle.rows.proofs.TaskLaws.{fit-other, row-sent}
+use Rattle.rows.proofs.HeadLaws.{variable}
 use Rattle.rows.proofs.AtTerms.{Stand, stand-long, stand-split, stand-join, stand-of, front-place, stand-front}
 
 map-append : {A B : Type 0} (f : A → B) (l m : List A) → map f (l ++ m) ≡ map f l ++ map f m
@@ -19,12 +20,6 @@ map-append f (a ∷ l) m = ap (λ r. f a ∷ r) (map-append f l m)
 map-map : {A B C : Type 0} (f : A → B) (g : B → C) (l : List A) → map g (map f l) ≡ map (λ a. g (f a)) l
 map-map f g [] = refl
 map-map f g (a ∷ l) = ap (λ r. g (f a) ∷ r) (map-map f g l)
-
-variable : (ts : List (Term ℕ)) → DistinctVariables ts → (t : Term ℕ) → t ∈ ts → (x : ℕ) × (t ≡ var x)
-variable [] d t m = absurd (List·Memᴰ·not-nil m)
-variable (var x ∷ ts) d t (List·Memᴰ·head e) = (x, e)
-variable (var x ∷ ts) d t (List·Memᴰ·tail m) = variable ts (d .1) t m
-variable (con c ∷ ts) d t m = absurd d
 
 module _ (v q : Rule ℕ) (ts : List (Term ℕ)) (p : Task) (h : ℕ) (w : TaskOf v q ts p h) where
   -- a head's places stand for terms

@@ -6,15 +6,16 @@ use Prim.Native.Nat.{ℕ, zero, suc, _+_, _*_, _-_, _<_, _≤_}
 use native.Mathlib.Omega.{arith}
 use lib.ListN.{length, getD, take, length-map}
 use lib.Seq.{length-take-le, getD-take}
-use Rattle.words.specs.Words.{Term, con, Subgoal, Rule}
+use Rattle.words.specs.Words.{Term, Rule}
 use Rattle.words.specs.Summaries.{place}
 use Rattle.coding.specs.Code.{padded, termCode, subgoalWords}
 use Rattle.placing.specs.Task.{Task}
-use Rattle.ties.proofs.AtWords.{nothing, padded-long, term-at}
+use Rattle.ties.proofs.AtWords.{nothing, padded-long}
 use Rattle.ties.proofs.AtPlaces.{place-getD}
-use Rattle.rows.specs.RowTask.{alone, onto, rowTask, TaskOf}
+use Rattle.rows.specs.RowTask.{alone, onto, TaskOf}
 use Rattle.rows.specs.Steps.{rowWords}
 use Rattle.rows.proofs.AtTerms.{Stand, place-front}
+use Rattle.rows.proofs.HeadLaws.{alone-term}
 use Rattle.rows.proofs.RowOrder.{rowOf}
 
 padded-in : (f : ℕ → ℕ) (n : ℕ) (l : List ℕ) (i : ℕ) → i < n → i < length l → getD (padded n (map f l)) i 0 ≡ f (getD l i 0)
@@ -60,10 +61,7 @@ module _ (v q : Rule ℕ) (ts : List (Term ℕ)) (p : Task) (h : ℕ) (w : TaskO
   word-of : (k : ℕ) (t : Term ℕ) → place ts (suc k) ≡ some t → getD (p .target) (9 * k + 1) 0 ≡ termCode t
   word-of k t e =
       let g = place-getD nothing (onto ts q) k (alone t) (place-front (q .body) ts k t e) in
-      let z : 9 * k + 1 + 0 ≡ 9 * k + 1 = omega arith in
-      ap (λ l. getD (l .target) (9 * k + 1) 0) (w .words) ∙ ap (λ i. getD (rowTask v q ts .target) i 0) (sym z)
-      ∙ term-at termCode (onto ts q) k 0 (con 0) (g .0) (omega arith) (omega (arith, ap (λ (s : Subgoal (Term ℕ)). length (s .terms)) (g .1)))
-      ∙ ap (λ (s : Subgoal (Term ℕ)). termCode (getD (s .terms) 0 (con 0))) (g .1)
+      ap (λ l. getD (l .target) (9 * k + 1) 0) (w .words) ∙ alone-term termCode (onto ts q) k t (g .0) (g .1)
 
   words-of : (js : List ℕ) (row : List (Term ℕ)) → Stand ts js row → map (λ k. getD (p .target) (9 * k + 1) 0) js ≡ map termCode row
   words-of [] [] s = refl

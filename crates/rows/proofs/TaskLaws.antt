@@ -5,21 +5,18 @@ use mathlib.Core.List.{List, [], _++_, map, List·Memᴰ·eq-of-singleton, List�
 use Prim.Native.Nat.{ℕ, _+_, _<_, _≤_}
 use native.Mathlib.Omega.{arith}
 use native.Mathlib.Decide.{decLt}
-use lib.ListN.{length, getD, replicate, length-append, length-map, length-replicate, getD-replicate, List·getD-eq-default, List·getD-append}
+use lib.ListN.{length, getD, replicate, length-append, length-map, length-replicate, getD-replicate, List·getD-eq-default}
 use Rattle.words.specs.Words.{_∈_, Term, con, Subgoal, Rule, Fits}
 use Rattle.layout.specs.RuleLayout.{TermWithin}
 use Rattle.layout.specs.BookLayout.{Arities}
-use Rattle.placing.specs.Task.{Task, widthOf, goals}
+use Rattle.placing.specs.Task.{Task}
 use Rattle.placing.specs.Mapped.{Mapped}
 use Rattle.ties.specs.Coded.{In, Small, Sent}
-use Rattle.ties.specs.Codings.{slotNaming, termCoding, RuleSource}
+use Rattle.ties.specs.Codings.{termCoding, RuleSource}
 use Rattle.ties.proofs.AtPlaces.{getD-in}
-use Rattle.ties.proofs.AtWords.{nothing, map-get, width-at}
 use Rattle.ties.proofs.Read.{read-term, term-solid}
-use Rattle.ties.proofs.Sizes.{sized}
 use Rattle.ties.proofs.Slots.{slots-sent}
-use Rattle.rows.specs.RowTask.{headRelation, alone, placed, onto, rowTask, TaskOf}
-use Rattle.rows.specs.RowPlaces.{HeadTask}
+use Rattle.rows.specs.RowTask.{headRelation, alone, placed, onto, TaskOf}
 
 -- What a relation's arity says of a subgoal.
 module _ {A : Type 0} (arities : List ℕ) (all : Arities arities) (g : Subgoal A) (fit : Fits arities g) where
@@ -29,7 +26,7 @@ module _ {A : Type 0} (arities : List ℕ) (all : Arities arities) (g : Subgoal 
   pub fit-other : g .relation ≡ headRelation → ⊥
   fit-other e = omega (arith, fit .known, all .few)
 
-zeros : (n i : ℕ) → _≡_ {A = ℕ} (getD (replicate n 0) i 0) 0
+pub zeros : (n i : ℕ) → _≡_ {A = ℕ} (getD (replicate n 0) i 0) 0
 zeros n i = go (decLt i n)
   where
     go : Dec (i < n) → _≡_ {A = ℕ} (getD (replicate n 0) i 0) 0
@@ -37,11 +34,11 @@ zeros n i = go (decLt i n)
     go (no h) = List·getD-eq-default {A = ℕ} (replicate n 0) 0 {n = i} (omega (arith, length-replicate {A = ℕ} n 0))
 
 -- a subgoal of the list is a term alone, or one of the body
-parts : (ts : List (Term ℕ)) (body : List (Subgoal (Term ℕ))) (g : Subgoal (Term ℕ)) → g ∈ (map alone ts ++ body) → ((t : Term ℕ) × (t ∈ ts) × (alone t ≡ g)) ⊎ (g ∈ body)
+pub parts : (ts : List (Term ℕ)) (body : List (Subgoal (Term ℕ))) (g : Subgoal (Term ℕ)) → g ∈ (map alone ts ++ body) → ((t : Term ℕ) × (t ∈ ts) × (alone t ≡ g)) ⊎ (g ∈ body)
 parts ts body g m = ⊎-elim (λ i. inl (Memᴰ·of-map alone ts i)) inr (List·Memᴰ·append-cases (map alone ts) m)
 
 module _ (v q : Rule ℕ) (ts : List (Term ℕ)) (p : Task) (h : ℕ) (w : TaskOf v q ts p h) where
-  room : (g : Subgoal (Term ℕ)) → g ∈ placed v → length (g .terms) ≤ 8
+  pub room : (g : Subgoal (Term ℕ)) → g ∈ placed v → length (g .terms) ≤ 8
   room g m = ⊎-elim (λ a. rw (ap (λ (k : Subgoal (Term ℕ)). length (k .terms)) (sym (a .2))) (omega arith)) (λ i. fit-room (w .arities) (w .relations) g (w .summary .fit g i)) (parts (v .head) (v .body) g m)
 
   -- the terms of a list of terms alone and a body
@@ -60,7 +57,7 @@ module _ (v q : Rule ℕ) (ts : List (Term ℕ)) (p : Task) (h : ℕ) (w : TaskO
   target-within : (t : Term ℕ) → In t (onto ts q) → TermWithin t
   target-within = in-parts ts (q .body) TermWithin (λ t m. question-within t (w .terms .sound t m)) question-within
 
-  alike : (g k : Subgoal (Term ℕ)) → g ∈ placed v → k ∈ onto ts q → g .relation ≡ k .relation → length (g .terms) ≡ length (k .terms)
+  pub alike : (g k : Subgoal (Term ℕ)) → g ∈ placed v → k ∈ onto ts q → g .relation ≡ k .relation → length (g .terms) ≡ length (k .terms)
   alike g k m n e = ⊎-elim
       (λ a. ⊎-elim (λ b. ap (λ (x : Subgoal (Term ℕ)). length (x .terms)) (sym (a .2)) ∙ ap (λ (x : Subgoal (Term ℕ)). length (x .terms)) (b .2))
       (λ j. absurd (fit-other (w .arities) (w .relations) k (w .question .fit k j) (sym e ∙ ap (λ (x : Subgoal (Term ℕ)). x .relation) (sym (a .2)))))
@@ -86,13 +83,13 @@ module _ (v q : Rule ℕ) (ts : List (Term ℕ)) (p : Task) (h : ℕ) (w : TaskO
   pub row-sent : (l : List ℕ) → Mapped p [] l ↔ Sent termCoding (λ x. x) (placed v) (onto ts q) [] l
   row-sent l = subst (λ t. Mapped t [] l ↔ Sent termCoding (λ x. x) (placed v) (onto ts q) [] l) (sym (w .words)) (slots-sent termCoding (placed v) (replicate (length (placed v)) 0) (onto ts q) (replicate (length (onto ts q)) 0) [] source l)
 
-  placed-long : length (placed v) ≡ h + length (v .body)
+  pub placed-long : length (placed v) ≡ h + length (v .body)
   placed-long = length-append (map alone (v .head)) (v .body) ∙ ap (λ n. n + length (v .body)) (length-map (v .head) alone ∙ w .long)
 
   pub onto-long : length (onto ts q) ≡ length ts + length (q .body)
   onto-long = length-append (map alone ts) (q .body) ∙ ap (λ n. n + length (q .body)) (length-map ts alone)
 
-  small : Small termCoding (placed v) (replicate (length (placed v)) 0) (onto ts q) (replicate (length (onto ts q)) 0)
+  pub small : Small termCoding (placed v) (replicate (length (placed v)) 0) (onto ts q) (replicate (length (onto ts q)) 0)
   small = record {
     few = omega (arith, placed-long, w .long, w .summary .short, w .summary .few);
     many = omega (arith, onto-long, w .few, w .question .few);
@@ -102,23 +99,3 @@ module _ (v q : Rule ℕ) (ts : List (Term ℕ)) (p : Task) (h : ℕ) (w : TaskO
     sets = λ k. omega (arith, zeros (length (onto ts q)) k);
     solid = λ t i. term-solid t;
   }
-
-  goals-are : goals (rowTask v q ts) ≡ length (placed v)
-  goals-are = length-map (placed v) (λ g. length (g .terms))
-
-  ready-here : HeadTask (rowTask v q ts) h
-  ready-here = record {
-    sized = sized slotNaming termCoding (placed v) (replicate (length (placed v)) 0) (onto ts q) (replicate (length (onto ts q)) 0) small;
-    oneUse = zeros (length (placed v));
-    single = single;
-    inside = omega (arith, goals-are, placed-long);
-    short = omega (arith, w .long, w .summary .short);
-  }
-    where
-      single : (i : ℕ) → i < h → widthOf (rowTask v q ts) i ≡ 1
-      single i l =
-          let o : i < length (map alone (v .head)) = omega (arith, length-map (v .head) alone, w .long) in
-          width-at (placed v) i ∙ ap (λ (g : Subgoal (Term ℕ)). length (g .terms)) (List·getD-append (map alone (v .head)) (v .body) nothing i o ∙ map-get alone (v .head) i (con 0) nothing (omega (arith, w .long)))
-
-  pub row-ready : HeadTask p h
-  row-ready = subst (λ t. HeadTask t h) (sym (w .words)) ready-here

@@ -1,12 +1,12 @@
-// The rows of one summary, in order, by the search: the head's places stand before its body, and the next row is found by taking the last place that
-// can go further on to the next target where a mapping exists.
+// The rows of one summary, in order. A row is the places of the head among the question's terms; place by place it is tried whether some row begins so,
+// by the search for places of the body.
 ghost use mathlib.Core.Path.{_≡_};
-ghost use mathlib.Core.List.{_++_};
 ghost use Prim.Native.Nat.{_+_, _*_, _<_, _≤_};
-ghost use lib.ListN.{length, getD, take, drop};
+ghost use lib.ListN.{length, getD, take};
 ghost use lib.Seq.{paste};
 ghost use Rattle.placing.specs.Task.{posed};
-ghost use Rattle.rows.specs.RowPlaces.{AtRow, NextPlaces};
+ghost use Rattle.words.specs.Order.{ListBefore, First};
+ghost use Rattle.rows.specs.RowPlaces.{HeadTask, AtRow, AtFront, OnTargets, PlacesWith, StartPlaces, NextPlaces, Begins, NextPlace};
 ghost use Rattle.rows.specs.Steps.{binding, fixing, rowWords, InReach};
 ghost use Rattle.rows.specs.RowsAfter.{Asked, Promised};
 use placing::Places;
@@ -47,20 +47,6 @@ fn fixed(source: &[u64], target: &[u64], j: usize, ks: [u16; 96]) -> [u64; 64]
     g
 }
 
-// The first j of some places, and the others from there on.
-fn spliced(kept: [u16; 96], j: usize, others: [u16; 96]) -> [u16; 96]
-    requires { ⌜ j ≤ 96 ⌝ }
-    ensures { λ r. ⌜ r ≡ take j kept ++ drop j others ⌝ }
-{
-    let mut r = others;
-    let mut i: usize = 0;
-    while i < j {
-        r[i] = kept[i];
-        i += 1;
-    }
-    r
-}
-
 // Word i of a row: its summary's number, the words of its terms, and 1 where they have ended.
 fn row_word(target: &[u64], number: u64, head: usize, ks: [u16; 96], i: usize) -> u64
     requires { ⌜ InReach (now target) ks head ⌝ }
@@ -91,7 +77,104 @@ fn put_row(target: &[u64], number: u64, head: usize, ks: [u16; 96], count: usize
     }
 }
 
-// The first row after the one that ks begins with: the places before j stay, and place j goes further on, from the last place down.
+// Whether some row begins with the first j of the places ks: whether the body can be placed where their terms are bound.
+// The head's other places take no part in it: the body binds their variables, and each has then one term.
+fn row_begins(
+    source: &[u64],
+    widths: &[u8],
+    lasts: &[u8],
+    target: &[u64],
+    own: &[u8],
+    head: usize,
+    j: usize,
+    ks: [u16; 96],
+) -> bool
+    requires { ⌜ OnTargets (posed (now source) (now widths) (now lasts) (now target) (now own)) head j ks ⌝ }
+    ensures { λ r. ⌜ Begins (posed (now (source .entry)) (now (widths .entry)) (now (lasts .entry)) (now (target .entry)) (now (own .entry))) head j ks r ⌝ }
+{
+    let g = fixed(source, target, j, ks);
+    let r = places_from(source, widths, lasts, target, own, head, g, 0);
+    r.ok
+}
+
+// The first place from `from` on that some row has behind the first j of ks, put there.
+fn next_place(
+    source: &[u64],
+    widths: &[u8],
+    lasts: &[u8],
+    target: &[u64],
+    own: &[u8],
+    head: usize,
+    j: usize,
+    ks: [u16; 96],
+    from: usize,
+) -> Places
+    requires { ⌜ AtFront (posed (now source) (now widths) (now lasts) (now target) (now own)) head j ks ⌝ }
+    requires { ⌜ j < head ⌝ }
+    ensures { λ r. ⌜ NextPlace (posed (now (source .entry)) (now (widths .entry)) (now (lasts .entry)) (now (target .entry)) (now (own .entry))) head j ks from r ⌝ }
+{
+    let mut next = from;
+    'targets: while next < own.len() {
+        let k = next;
+        next = k + 1;
+        if target[9 * k] != source[9 * j] {
+            continue 'targets;
+        }
+        let mut all = ks;
+        all[j] = k as u16;
+        if row_begins(source, widths, lasts, target, own, head, j + 1, all) {
+            return Places { ok: true, ks: all };
+        }
+    }
+    Places { ok: false, ks }
+}
+
+// The first row that begins with the first j of ks: place after place takes the first that some row has there.
+fn row_with(
+    source: &[u64],
+    widths: &[u8],
+    lasts: &[u8],
+    target: &[u64],
+    own: &[u8],
+    head: usize,
+    j: usize,
+    ks: [u16; 96],
+) -> [u16; 96]
+    requires { ⌜ AtFront (posed (now source) (now widths) (now lasts) (now target) (now own)) head j ks ⌝ }
+    ensures { λ r. ⌜ First (PlacesWith (posed (now (source .entry)) (now (widths .entry)) (now (lasts .entry)) (now (target .entry)) (now (own .entry))) head j ks) (ListBefore _<_) (take head r) ⌝ }
+{
+    let mut all = ks;
+    let mut i = j;
+    while i < head {
+        let r = next_place(source, widths, lasts, target, own, head, i, all, 0);
+        let more = r.ks;
+        all = more;
+        i += 1;
+    }
+    all
+}
+
+// The first row of all, if some row begins with no places.
+fn first_row(
+    source: &[u64],
+    widths: &[u8],
+    lasts: &[u8],
+    target: &[u64],
+    own: &[u8],
+    head: usize,
+) -> Places
+    requires { ⌜ HeadTask (posed (now source) (now widths) (now lasts) (now target) (now own)) head ⌝ }
+    ensures { λ r. ⌜ StartPlaces (posed (now (source .entry)) (now (widths .entry)) (now (lasts .entry)) (now (target .entry)) (now (own .entry))) head r ⌝ }
+{
+    let ks = [0u16; 96];
+    if row_begins(source, widths, lasts, target, own, head, 0, ks) {
+        let all = row_with(source, widths, lasts, target, own, head, 0, ks);
+        return Places { ok: true, ks: all };
+    }
+    Places { ok: false, ks }
+}
+
+// The first row after the one that ks begins with: the last place that can go further on does, and those behind it start anew.
 fn next_row(
     source: &[u64],
     widths: &[u8],
@@ -107,12 +190,11 @@ fn next_row(
     let mut j = head;
     while 0 < j {
         j -= 1;
-        let g = fixed(source, target, j, ks);
         let from = ks[j] as usize + 1;
-        let r = places_from(source, widths, lasts, target, own, j, g, from);
+        let r = next_place(source, widths, lasts, target, own, head, j, ks, from);
         if r.ok {
-            let tail = r.ks;
-            let all = spliced(ks, j, tail);
+            let front = r.ks;
+            let all = row_with(source, widths, lasts, target, own, head, j + 1, front);
             return Places { ok: true, ks: all };
         }
     }
@@ -134,7 +216,7 @@ pub fn rows_of(
     requires { ⌜ Asked (posed (now source) (now widths) (now lasts) (now target) (now own)) head found (length (now out)) ⌝ }
     ensures { λ r. ⌜ Promised (posed (now (source .entry)) (now (widths .entry)) (now (lasts .entry)) (now (target .entry)) (now (own .entry))) head number found (now (out .entry)) (now (out .exit)) r ⌝ }
 {
-    let first = places_from(source, widths, lasts, target, own, 0, [0u64; 64], 0);
+    let first = first_row(source, widths, lasts, target, own, head);
     let mut ok = first.ok;
     let mut ks = first.ks;
     let mut count = found;

@@ -2,7 +2,7 @@ use Prim.Native.Nat.{_-_}
 use native.Mathlib.Omega.{arith}
 use Rattle.placing.specs.Task.{posed}
 use Rattle.rows.proofs.ListSteps.{State, fewer, head-task, state-start, at-row, room, state-more, state-over, state-end}
-use Rattle.rows.proofs.NextSteps.{in-reach}
+use Rattle.rows.proofs.NextSteps.{row-reach}
 use Rattle.rows.proofs.rows_of.Statement.{statement}
 use Rattle.rows.proofs.rows_of.Tie as tie
 
@@ -12,11 +12,11 @@ Inv-loop source widths lasts target own head number found out₀ ok₀ ks₀ cou
 abbrev μ-loop : tie.MeasureT-loop
 μ-loop source widths lasts target own head number found out₀ ok₀ ks₀ count₀ out ok ks count = 64 - count
 
-places-from-requires : tie.Need-places-from-requires Inv-loop μ-loop
-places-from-requires c κs = (head-task (c .before .before .before .before .before .before .pre) .sized, omega arith)
+first-row-requires : tie.Need-first-row-requires Inv-loop μ-loop
+first-row-requires c κs = head-task (c .before .before .before .before .before .before .pre)
 
 loop-holds : tie.Need-loop-holds Inv-loop μ-loop
-loop-holds c = state-start _ _ _ _ _ (c .before .before .before .before .before .before .before .before .pre) _ (c .before .places-from .ensures)
+loop-holds c = state-start _ _ _ _ _ (c .before .before .before .before .before .before .before .before .pre) _ (c .before .first-row .ensures)
 
 same-length : tie.Need-same-length Inv-loop μ-loop
 same-length c = c .before .before .loop .inv .long
@@ -25,7 +25,7 @@ returns : tie.Need-returns Inv-loop μ-loop
 returns c = state-over _ _ _ _ _ (c .before .before .before .before .before .before .before .before .before .before .before .pre) _ _ _ (rw (c .before .loop-test .taken) at (c .before .before .loop .inv)) (c .if1 .taken)
 
 put-row-requires : tie.Need-put-row-requires Inv-loop μ-loop
-put-row-requires c κs = let s = (rw (c .before .before .loop-test .taken) at (c .before .before .before .loop .inv)) in (in-reach _ _ _ (at-row _ _ _ _ _ (c .before .before .before .before .before .before .before .before .before .before .before .before .pre) _ _ _ s) _ (omega arith), room _ _ _ _ _ (c .before .before .before .before .before .before .before .before .before .before .before .before .pre) _ _ _ s (fewer _ (c .before .before .before .loop .inv .small) (c .before .if1 .left)))
+put-row-requires c κs = let s = (rw (c .before .before .loop-test .taken) at (c .before .before .before .loop .inv)) in (row-reach _ _ _ (at-row _ _ _ _ _ (c .before .before .before .before .before .before .before .before .before .before .before .before .pre) _ _ _ s), room _ _ _ _ _ (c .before .before .before .before .before .before .before .before .before .before .before .before .pre) _ _ _ s (fewer _ (c .before .before .before .loop .inv .small) (c .before .if1 .left)))
 
 add-count : tie.Need-add-count Inv-loop μ-loop
 add-count c = omega (arith, c .before .before .before .before .before .before .loop .inv .small)
@@ -51,7 +51,7 @@ rows-of-spec =
     (tie.spec
     Inv-loop
     μ-loop
-    places-from-requires
+    first-row-requires
     loop-holds
     same-length
     returns
