@@ -44,22 +44,16 @@ module _ (rows : Rows) (rises : Rising RowBefore rows) where
 laid : {s : Summaries} {q : Rule ℕ} {rows : Rows} (r : Chosen) → Found s q rows r → r .rows ≡ numbersOf r ++ replicate (12 - length (numbersOf r)) 0
 laid r f = sym (take-append-drop (r .k) (r .rows)) ∙ ap (_++_ (numbersOf r)) (f .rest ∙ ap (λ n. replicate (12 - n) 0) (sym (f .count)))
 
-module _ {t : Task} {b : List ℕ} {n : ℕ} (p : Posed t b n) where
-  both-found : (r o : Chosen) → Found (p .summaries) (p .question) (p .rows) r → Found (p .summaries) (p .question) (p .rows) o → (r .k ≡ o .k) × (r .rows ≡ o .rows)
+module _ {s : Summaries} {q : Rule ℕ} {rows : Rows} (rising : Rising RowBefore rows) where
+  both-found : (r o : Chosen) → Found s q rows r → Found s q rows o → (r .k ≡ o .k) × (r .rows ≡ o .rows)
   both-found r o f g = (sym (f .count) ∙ ap length e ∙ g .count, laid r f ∙ ap (λ l. l ++ replicate (12 - length l) 0) e ∙ sym (laid o g))
     where
       e : numbersOf r ≡ numbersOf o
-      e = numbers-once (p .rows) (p .by .all .rising) (numbersOf r) (numbersOf o) (f .within) (g .within) (first-unique shorterOrder _ _ (f .answer) (g .answer))
+      e = numbers-once rows rising (numbersOf r) (numbersOf o) (f .within) (g .within) (first-unique shorterOrder _ _ (f .answer) (g .answer))
 
-  pub chosen-once : (r o : Chosen) → Chooses t b n r → Chooses t b n o → r ≡ o
-  chosen-once r o c d = go (r .ok) (o .ok) refl refl
+  pub chosen-by-once : (r o : Chosen) → ChosenBy s q rows r → ChosenBy s q rows o → r ≡ o
+  chosen-by-once r o x y = go (r .ok) (o .ok) refl refl
     where
-      x : ChosenBy (p .summaries) (p .question) (p .rows) r
-      x = c .by _ _ _ (p .by)
-
-      y : ChosenBy (p .summaries) (p .question) (p .rows) o
-      y = d .by _ _ _ (p .by)
-
       same : (r .ok ≡ o .ok) → (r .k ≡ o .k) × (r .rows ≡ o .rows) → r ≡ o
       same e h = λ i. record { ok = e i; k = h .0 i; rows = h .1 i }
 
@@ -68,3 +62,6 @@ module _ {t : Task} {b : List ℕ} {n : ℕ} (p : Posed t b n) where
       go true false e f = absurd (y .none f .none _ (x .found e .answer .holds))
       go false true e f = absurd (x .none e .none _ (y .found f .answer .holds))
       go false false e f = same (e ∙ sym f) (x .none e .count ∙ sym (y .none f .count), x .none e .rest ∙ sym (y .none f .rest))
+
+pub chosen-once : {t : Task} {b : List ℕ} {n : ℕ} (p : Posed t b n) (r o : Chosen) → Chooses t b n r → Chooses t b n o → r ≡ o
+chosen-once p r o c d = chosen-by-once (p .by .all .rising) r o (c .by _ _ _ (p .by)) (d .by _ _ _ (p .by))

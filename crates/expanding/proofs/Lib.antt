@@ -5,3 +5,4 @@ pub mod Growing
 pub mod Beginnings
 pub mod Read
 pub mod SummaryRows
+pub mod Unique

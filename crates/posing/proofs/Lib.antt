@@ -5,3 +5,4 @@ pub mod RowSteps
 pub mod AskedLaws
 pub mod ChooseSteps
 pub mod ExpandSteps
+pub mod Unique

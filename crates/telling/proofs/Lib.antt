@@ -2,3 +2,4 @@ pub mod Found
 pub mod ThereLaws
 pub mod BackLaws
 pub mod Expanded
+pub mod Unique

@@ -1,0 +1,41 @@
+-- Any two results that meet a promise are the same: the book has one value, and the words one list of rows.
+use mathlib.Core.Path.{_≡_, sym, _∙_}
+use mathlib.Core.List.{List}
+use Prim.Native.Nat.{ℕ}
+use Rattle.words.specs.Words.{Term}
+use Rattle.words.specs.Summaries.{Own}
+use Rattle.expanding.specs.Given.{RowGiven, RowsGiven}
+use Rattle.expanding.specs.Promises.{OneUse, OneCount, OneWidths, Counted, AllWords, AllOwners, AllInsides, AllWidths, AllEnds, AllStarts}
+
+module _ {book row : List ℕ} (w : RowGiven book row) where
+  pub use-once : {code : Term (Own ℕ) → ℕ} {u : ℕ} {before after other : List ℕ} {n m : ℕ} → OneUse book row code u before after n → OneUse book row code u before other m → (n ≡ m) × (after ≡ other)
+  use-once a b = (a .count (w .value) (w .goal) (w .is) ∙ sym (b .count (w .value) (w .goal) (w .is)), a .words (w .value) (w .goal) (w .is) ∙ sym (b .words (w .value) (w .goal) (w .is)))
+
+  pub count-once : {n m : ℕ} → OneCount book row n → OneCount book row m → n ≡ m
+  count-once a b = a .count (w .value) (w .goal) 0 (w .is) ∙ sym (b .count (w .value) (w .goal) 0 (w .is))
+
+  pub use-widths-once : {before after other : List ℕ} → OneWidths book row before after → OneWidths book row before other → after ≡ other
+  use-widths-once a b = a .widths (w .value) (w .goal) 0 (w .is) ∙ sym (b .widths (w .value) (w .goal) 0 (w .is))
+
+module _ {book rows : List ℕ} {n : ℕ} (w : RowsGiven book rows n) where
+  pub counted-once : {k m : ℕ} → Counted book rows n k → Counted book rows n m → k ≡ m
+  counted-once a b = a .is (w .value) (w .list) (w .is) ∙ sym (b .is (w .value) (w .list) (w .is))
+
+  module _ {before after other : List ℕ} where
+    pub words-once : {code : Term (Own ℕ) → ℕ} → AllWords book rows n code before after → AllWords book rows n code before other → after ≡ other
+    words-once a b = a .is (w .value) (w .list) (w .is) ∙ sym (b .is (w .value) (w .list) (w .is))
+
+    pub owners-once : AllOwners book rows n before after → AllOwners book rows n before other → after ≡ other
+    owners-once a b = a .is (w .value) (w .list) (w .is) ∙ sym (b .is (w .value) (w .list) (w .is))
+
+    pub insides-once : AllInsides book rows n before after → AllInsides book rows n before other → after ≡ other
+    insides-once a b = a .is (w .value) (w .list) (w .is) ∙ sym (b .is (w .value) (w .list) (w .is))
+
+    pub widths-once : AllWidths book rows n before after → AllWidths book rows n before other → after ≡ other
+    widths-once a b = a .is (w .value) (w .list) (w .is) ∙ sym (b .is (w .value) (w .list) (w .is))
+
+    pub ends-once : AllEnds book rows n before after → AllEnds book rows n before other → after ≡ other
+    ends-once a b = a .is (w .value) (w .list) (w .is) ∙ sym (b .is (w .value) (w .list) (w .is))
+
+    pub starts-once : AllStarts book rows n before after → AllStarts book rows n before other → after ≡ other
+    starts-once a b = a .is (w .value) (w .list) (w .is) ∙ sym (b .is (w .value) (w .list) (w .is))
