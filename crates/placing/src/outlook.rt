@@ -203,6 +203,7 @@ fn beyond(many: u64, left: usize, each: u64) -> bool
 }
 
 // What is seen of the source subgoal `at` and the others of its use.
+// Where no row may be taken this is not worth its time: a subgoal that wants one fails as soon as it is tried.
 pub(crate) fn look(
     source: &[u64],
     widths: &[u8],
