@@ -1,5 +1,9 @@
 /* Program `rewrite` in C, unproved: the same algorithm, and what the proved one's speed is measured
-   against. A stream of books on standard input, each after its length; writes each one's listing.
+   against.
+
+     rewriter            a stream of books on standard input, each after its length: each one's listing
+     rewriter repeat     before each length stands how often the book is rewritten: a line tells the last outcome
+     rewriter guesses    as without a word, and on standard error how many guesses each book took
 
    Everything is one search: `place` sends a source's subgoals to targets, one after the other. Rows,
    which row can stand in for which, whether a budget of rows is enough, and the witness's two parts
@@ -19,6 +23,7 @@ typedef uint64_t word;
    63: those of the current use alone), and otherwise a code that stays as it is. */
 enum { WORDS = 9, SUBGOALS = 12, IN_SUMMARY = 8, ROWS = 64, TARGETS = ROWS * IN_SUMMARY, BACK = SUBGOALS * IN_SUMMARY };
 enum { VARIABLE = 1, CONSTANT = 2, HIDDEN = 3, HEAD_PLACE = 255 };
+enum { ANSWER_ROOM = 534, WITNESS_ROOM = 120 };
 
 struct rule { int heads, subgoals; word head[8], body[SUBGOALS * WORDS]; };
 struct book { uint32_t need, stamp[64]; int summaries; uint8_t arity[256]; struct rule question, summary[64]; };
@@ -27,85 +32,137 @@ struct row { int summary; word term[8]; };
 /* ---- the search */
 
 struct bindings { word of[64]; };
-struct marks { uint8_t row[ROWS]; int left; }; /* a row: 2 used, 1 may be used and costs one of `left`, 0 barred */
+struct rows { word used, may; int left; }; /* sets of rows; one of `may` that is not used costs one of `left` */
 
 struct task {
     const uint8_t *arity;
     const word *source; int sources;
-    const uint8_t *first_of_use; /* the subgoals that begin a use, whose own slots are then unbound; or null */
+    const uint8_t *last; /* the subgoals that end a use, behind which the own slots are unbound; or null: none does */
     const word *target; int targets;
-    const uint8_t *row_of; /* the row that a target belongs to; or null: all may be used */
-    const uint8_t *may; /* may[TARGETS * i + k]: whether subgoal i may go to target k; or null: all may */
+    const uint8_t *own; /* the row that a target belongs to; or null: all may be used */
 };
 
-/* Why a placing failed: the slots whose bindings did it, and whether the budget had a part in it. So: no
-   bindings that agree on these slots can be completed by rows that are not barred; where the budget
-   had a part, not within these marks. */
-struct failure { word slots; int budget; };
+/* Why a placing failed: the slots whose bindings did it, and whether more rows might have helped. */
+struct failure { word slots; int is_short; };
 
 static uint64_t guesses;
 
-/* Sends the subgoals from `at` on, the first of them to targets from `from` on. Writes each one's
-   target to `places` and answers 1 if it can be done, by the first way in order; else says why not. */
-static int place(const struct task *t, int at, struct bindings before, struct marks marks, int from, uint16_t *places, struct failure *why) {
+static int has(word set, int x) { return set >> x & 1; }
+static word with(word set, word x) { return x < 64 ? set | (word)1 << x : set; }
+static word stands(const struct bindings *b, word x) { return x < 64 ? b->of[x] : x; }
+
+/* Whether subgoal i may still become target k. */
+static int offered(const struct task *t, const struct bindings *b, int i, int k) {
+    const word *goal = t->source + WORDS * i, *target = t->target + WORDS * k;
+    if (goal[0] != target[0]) return 0;
+    for (int a = 1; a <= t->arity[goal[0]]; a++) {
+        word have = stands(b, goal[a]);
+        if (have != 0 && have != target[a]) return 0;
+    }
+    return 1;
+}
+
+/* The rows that have a target for subgoal i; one that is used is enough. */
+static word offers(const struct task *t, const struct bindings *b, struct rows rows, int i) {
+    word found = 0;
+    for (int k = 0; k < t->targets; k++) {
+        int row = t->own[k];
+        if (!has(rows.used | rows.may, row) || !offered(t, b, i, k)) continue;
+        found = with(found, row);
+        if (has(rows.used, row)) return found;
+    }
+    return found;
+}
+
+/* Whether placing the subgoals from `at` on is seen to be in vain: one has no target any more, or they
+   want more rows than are left, each serving as many as the one that serves most. */
+static int is_vain(const struct task *t, int at, const struct bindings *b, struct rows rows, struct failure *why) {
+    uint8_t served[ROWS] = {0};
+    int many = 0, most = 0;
+    word slots = 0;
+    for (int i = at; i < t->sources; i++) {
+        const word *goal = t->source + WORDS * i;
+        word own = 0, found = offers(t, b, rows, i);
+        if (found & rows.used) continue;
+        for (int a = 1; a <= t->arity[goal[0]]; a++) own = with(own, goal[a]);
+        if (found == 0) {
+            *why = (struct failure){own, 0};
+            return 1;
+        }
+        slots |= own;
+        many++;
+        for (int r = 0; r < ROWS; r++) {
+            served[r] += has(found, r);
+            if (served[r] > most) most = served[r];
+        }
+    }
+    if (many <= rows.left * most) return 0;
+    *why = (struct failure){slots, 1};
+    return 1;
+}
+
+/* Sends the subgoals from `at` on. Writes each one's target to `places` and answers 1 if it can be
+   done, by the first way in order; else says why not. */
+static int place(const struct task *t, int at, struct bindings before, struct rows rows, uint16_t *places, struct failure *why) {
     if (at == t->sources) return 1;
+    if (t->own && is_vain(t, at, &before, rows, why)) return 0;
     const word *goal = t->source + WORDS * at;
     int arity = t->arity[goal[0]];
     struct failure all = {0, 0};
-    for (int k = from; k < t->targets; k++) {
+    for (int k = 0; k < t->targets; k++) {
         const word *target = t->target + WORDS * k;
-        if (target[0] != goal[0] || (t->may && !t->may[TARGETS * at + k])) continue;
-        struct marks after = marks;
-        if (t->row_of && marks.row[t->row_of[k]] != 2) {
-            if (marks.row[t->row_of[k]] == 0) continue;
-            if (marks.left == 0) {
-                all.budget = 1;
+        if (target[0] != goal[0]) continue;
+        struct rows after = rows;
+        int is_free = !t->own || has(rows.used, t->own[k]);
+        if (!is_free) {
+            if (!has(rows.may, t->own[k])) continue;
+            if (rows.left == 0) {
+                all.is_short = 1;
                 continue;
             }
-            after.row[t->row_of[k]] = 2;
+            after.used = with(rows.used, t->own[k]);
             after.left--;
         }
         guesses++;
         struct bindings guess = before;
         word bound_here = 0;
-        int a = 0;
-        for (; a < arity; a++) {
-            word x = goal[1 + a], y = target[1 + a];
-            word have = x < 64 ? guess.of[x] : x;
+        int a = 1;
+        for (; a <= arity; a++) {
+            word x = goal[a], y = target[a], have = stands(&guess, x);
             if (have == 0) {
                 guess.of[x] = y;
-                bound_here |= (word)1 << x;
+                bound_here = with(bound_here, x);
             } else if (have != y) {
-                if (x < 64) all.slots |= (word)1 << x;
+                all.slots = with(all.slots, x);
                 break;
             }
         }
-        if (a < arity) continue;
-        int new_use = t->first_of_use && at + 1 < t->sources && t->first_of_use[at + 1];
-        if (new_use) memset(guess.of + 32, 0, sizeof(word) * 32);
+        if (a <= arity) continue;
+        int ends_use = t->last && t->last[at];
+        if (ends_use) memset(guess.of + 32, 0, sizeof(word) * 32);
         struct failure below;
         places[at] = k;
-        if (place(t, at + 1, guess, after, 0, places, &below)) return 1;
-        if (new_use) below.slots &= 0xffffffff;
-        /* What failed has nothing to do with this guess: no other target can help. A target in a row
-           that was used already leaves the marks as they were, and no other guess leaves better ones. */
-        if (!(below.slots & bound_here) && (!below.budget || after.left == marks.left)) {
+        if (place(t, at + 1, guess, after, places, &below)) return 1;
+        if (ends_use) below.slots &= 0xffffffff;
+        /* What failed has nothing to do with this guess: no other target can help. One in a row that was
+           used already leaves the rows as they were, and no other guess leaves better ones. */
+        if (!(below.slots & bound_here) && (!below.is_short || is_free)) {
             *why = below;
             return 0;
         }
         all.slots |= below.slots;
-        all.budget |= below.budget;
+        all.is_short |= below.is_short;
     }
     *why = all;
     return 0;
 }
 
 static const struct bindings unbound;
-static const struct marks no_marks;
+static const struct rows no_rows;
 
 static int first_mapping(const struct task *t, struct bindings before, uint16_t *places) {
     struct failure why;
-    return place(t, 0, before, no_marks, 0, places, &why);
+    return place(t, 0, before, no_rows, places, &why);
 }
 
 /* ---- words from rules */
@@ -114,7 +171,7 @@ static int tag(word code) { return code >> 32; }
 static word coded(int a_tag, word n) { return (word)a_tag << 32 | n; }
 static word slot(word code) { return tag(code) == VARIABLE ? code & 31 : code; }
 
-/* The question's subgoals as what is sent. */
+/* The rule's subgoals as what is sent. */
 static void source_of(const struct rule *r, word *out) {
     for (int i = 0; i < r->subgoals * WORDS; i++) out[i] = i % WORDS == 0 ? r->body[i] : slot(r->body[i]);
 }
@@ -142,54 +199,68 @@ static int by_code(const void *a, const void *b) {
     return x < y ? -1 : x > y;
 }
 
-/* The question's terms, ascending and each once, as targets of the head's places; then its subgoals. */
-static int row_targets(const struct book *b, word *out) {
+/* The question's terms, ascending and each once; answers how many. */
+static int terms_of(const struct book *b, word *out) {
     const struct rule *q = &b->question;
-    word all[SUBGOALS * 8];
-    int count = 0, targets = 0;
+    int count = 0, kept = 0;
     for (int g = 0; g < q->subgoals; g++)
-        for (int a = 0; a < b->arity[q->body[g * WORDS]]; a++) all[count++] = q->body[g * WORDS + 1 + a];
-    qsort(all, count, sizeof(word), by_code);
+        for (int a = 0; a < b->arity[q->body[g * WORDS]]; a++) out[count++] = q->body[g * WORDS + 1 + a];
+    qsort(out, count, sizeof(word), by_code);
     for (int i = 0; i < count; i++)
-        if (i == 0 || all[i] != all[i - 1]) {
-            out[targets * WORDS] = HEAD_PLACE;
-            out[targets++ * WORDS + 1] = all[i];
-        }
-    memcpy(out + targets * WORDS, q->body, sizeof(word) * WORDS * q->subgoals);
-    return targets + q->subgoals;
+        if (i == 0 || out[i] != out[i - 1]) out[kept++] = out[i];
+    return kept;
 }
 
-/* The next row after the one in `places`: the last head place that can go further, with those before
-   it as they are. */
-static int next_row(const struct task *t, int heads, uint16_t *places) {
-    for (int j = heads - 1; j >= 0; j--) {
-        struct bindings fixed = unbound;
-        struct failure why;
-        for (int i = 0; i < j; i++) fixed.of[t->source[i * WORDS + 1]] = t->target[places[i] * WORDS + 1];
-        if (place(t, j, fixed, no_marks, places[j] + 1, places, &why)) return 1;
-    }
+struct heads { const struct task *body; const word *slot; int heads; const word *term; int terms; };
+
+/* Whether some row has these terms, by their numbers, in its first j places. */
+static int begins(const struct heads *h, int j, const int *chosen) {
+    struct bindings fixed = unbound;
+    uint16_t places[IN_SUMMARY];
+    for (int i = 0; i < j; i++) fixed.of[h->slot[i]] = h->term[chosen[i]];
+    return first_mapping(h->body, fixed, places);
+}
+
+/* Place j gets the first term from `from` on with which some row begins; answers whether there is one. */
+static int choose_term(const struct heads *h, int j, int from, int *chosen) {
+    for (chosen[j] = from; chosen[j] < h->terms; chosen[j]++)
+        if (begins(h, j + 1, chosen)) return 1;
     return 0;
 }
 
-/* All rows in order, or -1 where there are more than 64. The head's places are sent first, each as a
-   subgoal of its own: so rows come sorted, and each once. */
+/* The first row after the one that stands in `chosen`: the last place that can goes further on, and
+   those behind it start anew. From -1, the first row of all. */
+static int next_row(const struct heads *h, int *chosen, int is_first) {
+    int j = h->heads;
+    if (is_first) {
+        if (!begins(h, 0, chosen)) return 0;
+        j = 0;
+    } else {
+        do
+            if (--j < 0) return 0;
+        while (!choose_term(h, j, chosen[j] + 1, chosen));
+        j++;
+    }
+    for (; j < h->heads; j++) choose_term(h, j, 0, chosen);
+    return 1;
+}
+
+/* All rows in order, or -1 where there are more than 64. */
 static int find_rows(const struct book *b, struct row *rows) {
-    word target[(SUBGOALS * 8 + SUBGOALS) * WORDS], source[(8 + IN_SUMMARY) * WORDS];
-    int targets = row_targets(b, target), count = 0;
+    word term[SUBGOALS * 8], source[IN_SUMMARY * WORDS], slots[8];
+    int terms = terms_of(b, term), count = 0;
     for (int s = 0; s < b->summaries; s++) {
         if ((uint32_t)(b->stamp[s] - b->need) >= 0x80000000) continue; /* left out */
         const struct rule *r = &b->summary[s];
-        for (int h = 0; h < r->heads; h++) {
-            source[h * WORDS] = HEAD_PLACE;
-            source[h * WORDS + 1] = slot(r->head[h]);
-        }
-        source_of(r, source + r->heads * WORDS);
-        struct task t = {b->arity, source, r->heads + r->subgoals, NULL, target, targets, NULL, NULL};
-        uint16_t places[8 + IN_SUMMARY];
-        for (int more = first_mapping(&t, unbound, places); more; more = next_row(&t, r->heads, places)) {
+        source_of(r, source);
+        for (int h = 0; h < r->heads; h++) slots[h] = slot(r->head[h]);
+        struct task body = {b->arity, source, r->subgoals, NULL, b->question.body, b->question.subgoals, NULL};
+        struct heads heads = {&body, slots, r->heads, term, terms};
+        int chosen[8];
+        for (int more = next_row(&heads, chosen, 1); more; more = next_row(&heads, chosen, 0)) {
             if (count == ROWS) return -1;
             rows[count].summary = s;
-            for (int h = 0; h < r->heads; h++) rows[count].term[h] = target[places[h] * WORDS + 1];
+            for (int h = 0; h < r->heads; h++) rows[count].term[h] = term[chosen[h]];
             count++;
         }
     }
@@ -202,9 +273,9 @@ struct frame {
     struct task task; /* the question to all rows' expansions */
     struct bindings head;
     int rows;
-    uint8_t covers[ROWS][ROWS]; /* covers[v][r]: row v can stand in for row r, whose expansion goes into v's */
+    word covers[ROWS]; /* of row r the set of those that can stand in for it: its expansion goes into theirs */
     word source[SUBGOALS * WORDS], target[TARGETS * WORDS];
-    uint8_t row_of[TARGETS], may[SUBGOALS * TARGETS];
+    uint8_t own[TARGETS];
 };
 
 /* The question's head stays as it is. */
@@ -215,36 +286,27 @@ static struct bindings head_bindings(const struct rule *q) {
     return b;
 }
 
-/* The bindings with the goal's terms sent to the target's; answers whether that can be done. */
-static int bind(const uint8_t *arity, const word *goal, const word *target, struct bindings *b) {
-    if (goal[0] != target[0]) return 0;
-    for (int a = 1; a <= arity[goal[0]]; a++) {
-        word have = goal[a] < 64 ? b->of[goal[a]] : goal[a];
-        if (have == 0) b->of[goal[a]] = target[a];
-        else if (have != target[a]) return 0;
-    }
-    return 1;
-}
-
-/* A subgoal may go to a target only if every other subgoal can then still go somewhere. */
-static void look_ahead(struct frame *f) {
-    struct task one = f->task; /* one subgoal alone, to any row */
-    uint16_t places[1];
-    one.sources = 1;
-    one.row_of = NULL;
-    memset(f->may, 1, sizeof f->may);
-    for (int i = 0; i < f->task.sources; i++)
-        for (int k = 0; k < f->task.targets; k++) {
-            struct bindings b = f->head;
-            int can = bind(f->task.arity, f->source + WORDS * i, f->target + WORDS * k, &b);
-            for (int h = 0; can && h < f->task.sources; h++) {
-                if (h == i) continue;
-                one.source = f->source + WORDS * h;
-                one.may = f->may + TARGETS * h;
-                can = first_mapping(&one, b, places);
+/* Brings the question's subgoals in a good order: next always the one with the most terms bound. */
+static void order(struct frame *f) {
+    struct bindings b = f->head;
+    for (int i = 0; i < f->task.sources; i++) {
+        int best = i, most = 0;
+        word goal[WORDS];
+        for (int g = i; g < f->task.sources; g++) {
+            const word *one = f->source + WORDS * g;
+            int bound = 0;
+            for (int a = 1; a <= f->task.arity[one[0]]; a++) bound += stands(&b, one[a]) != 0;
+            if (bound > most) {
+                most = bound;
+                best = g;
             }
-            f->may[TARGETS * i + k] = can;
         }
+        memcpy(goal, f->source + WORDS * best, sizeof goal);
+        memmove(f->source + WORDS * (i + 1), f->source + WORDS * i, sizeof goal * (best - i));
+        memcpy(f->source + WORDS * i, goal, sizeof goal);
+        for (int a = 1; a <= f->task.arity[goal[0]]; a++)
+            if (goal[a] < 64) b.of[goal[a]] = 1;
+    }
 }
 
 static void find_covers(const struct book *b, const struct row *rows, struct frame *f, const int *start) {
@@ -252,10 +314,11 @@ static void find_covers(const struct book *b, const struct row *rows, struct fra
         word source[IN_SUMMARY * WORDS];
         uint16_t places[IN_SUMMARY];
         expand(b, &rows[r], r, AS_SOURCE, source);
+        f->covers[r] = 0;
         for (int v = 0; v < f->rows; v++) {
             struct task t = {b->arity, source, b->summary[rows[r].summary].subgoals, NULL,
-                             f->target + start[v] * WORDS, b->summary[rows[v].summary].subgoals, NULL, NULL};
-            f->covers[v][r] = v != r && first_mapping(&t, unbound, places);
+                             f->target + start[v] * WORDS, b->summary[rows[v].summary].subgoals, NULL};
+            if (v != r && first_mapping(&t, unbound, places)) f->covers[r] = with(f->covers[r], v);
         }
     }
 }
@@ -265,71 +328,71 @@ static void prepare(const struct book *b, const struct row *rows, int count, str
     for (int r = 0; r < count; r++) {
         start[r] = targets;
         expand(b, &rows[r], r, AS_TARGET, f->target + targets * WORDS);
-        for (int g = 0; g < b->summary[rows[r].summary].subgoals; g++) f->row_of[targets++] = r;
+        for (int g = 0; g < b->summary[rows[r].summary].subgoals; g++) f->own[targets++] = r;
     }
     source_of(&b->question, f->source);
-    f->task = (struct task){b->arity, f->source, b->question.subgoals, NULL, f->target, targets, f->row_of, f->may};
+    f->task = (struct task){b->arity, f->source, b->question.subgoals, NULL, f->target, targets, f->own};
     f->head = head_bindings(&b->question);
     f->rows = count;
     find_covers(b, rows, f, start);
-    look_ahead(f);
+    order(f);
 }
 
 /* Whether the used rows and at most `left` more of those that may be used take the whole question.
    A row that another one, used or allowed, can stand in for is not needed. */
-static int enough(const struct frame *f, struct marks marks) {
+static int enough(const struct frame *f, struct rows rows) {
     uint16_t places[SUBGOALS];
     struct failure why;
     for (int r = 0; r < f->rows; r++)
-        for (int v = 0; v < f->rows && marks.row[r] == 1; v++)
-            if (marks.row[v] && f->covers[v][r]) marks.row[r] = 0;
-    return place(&f->task, 0, f->head, marks, 0, places, &why);
+        if (f->covers[r] & (rows.used | rows.may)) rows.may &= ~((word)1 << r);
+    return place(&f->task, 0, f->head, rows, places, &why);
 }
 
 /* Chooses the rows of the answer, in order; answers how many, 0 if no list works. */
 static int choose(const struct frame *f, const struct row *rows, struct row *chosen) {
-    struct marks marks = {.left = f->task.sources};
-    int got = 0, length = 1;
-    for (int r = 0; r < f->rows; r++) marks.row[r] = 1;
-    if (!enough(f, marks)) return 0; /* no list works if none as long as the question does */
-    for (marks.left = length; !enough(f, marks); marks.left = ++length) {}
-    for (int r = 0; r < f->rows && got < length; r++) {
-        struct marks with = marks;
-        with.row[r] = 2;
-        with.left--;
-        if (enough(f, with)) {
-            marks = with;
+    struct rows now = {0, f->rows == 64 ? ~(word)0 : ((word)1 << f->rows) - 1, 0};
+    int got = 0;
+    for (; !enough(f, now); now.left++)
+        if (now.left == SUBGOALS) return 0; /* no list works if none as long as the question does */
+    for (int r = 0; now.left > 0; r++) {
+        now.may &= ~((word)1 << r);
+        struct rows with_it = {with(now.used, r), now.may, now.left - 1};
+        if (enough(f, with_it)) {
+            now = with_it;
             chosen[got++] = rows[r];
-        } else marks.row[r] = 0;
+        }
     }
     return got;
 }
 
-/* ---- the listing */
+/* ---- answer and witness as bytes */
 
-static void print_leads(const struct book *b) {
-    printf("need %u\n", b->need);
-    for (int s = 0; s < b->summaries; s++) {
-        uint32_t distance = b->stamp[s] - b->need;
-        if (distance == 0x80000000) printf("view %d lead tie\n", s + 1);
-        else printf("view %d lead %d\n", s + 1, (int32_t)distance);
+struct outcome { int number, place, answer, witness; }; /* number 0: done, with both lengths */
+
+static uint8_t *put_terms(uint8_t *out, const word *terms, int count) {
+    for (int i = 0; i < count; i++) {
+        *out++ = tag(terms[i]) == CONSTANT;
+        for (int shift = 0; shift < 32; shift += 8) *out++ = terms[i] >> shift;
     }
+    return out;
 }
 
-static void print_rows(const struct book *b, const struct row *chosen, int count) {
-    printf("rewriting %d\n", count);
+static int put_answer(const struct book *b, const struct row *chosen, int count, uint8_t *answer) {
+    uint8_t *out = answer;
+    *out++ = b->question.heads;
+    *out++ = count;
+    out = put_terms(out, b->question.head, b->question.heads);
     for (int i = 0; i < count; i++) {
-        printf("%d", chosen[i].summary + 1);
-        for (int h = 0; h < b->summary[chosen[i].summary].heads; h++)
-            printf(" %c%u", tag(chosen[i].term[h]) == VARIABLE ? 'v' : 'c', (uint32_t)chosen[i].term[h]);
-        putchar('\n');
+        *out++ = chosen[i].summary + 1;
+        out = put_terms(out, chosen[i].term, b->summary[chosen[i].summary].heads);
     }
+    return out - answer;
 }
 
 /* Both parts of the witness: each the first mapping, over all targets. */
-static void print_witness(const struct book *b, const struct row *chosen, int count) {
-    static word source[SUBGOALS * WORDS], there[BACK * WORDS], back[BACK * WORDS];
-    uint8_t use[BACK], within[BACK], first[BACK];
+static int put_witness(const struct book *b, const struct row *chosen, int count, uint8_t *witness) {
+    word source[SUBGOALS * WORDS], there[BACK * WORDS], back[BACK * WORDS];
+    uint8_t use[BACK], within[BACK], last[BACK], *out = witness;
     uint16_t places[BACK];
     int subgoals = 0;
     for (int u = 0; u < count; u++) {
@@ -338,40 +401,21 @@ static void print_witness(const struct book *b, const struct row *chosen, int co
         for (int g = 0; g < b->summary[chosen[u].summary].subgoals; g++, subgoals++) {
             use[subgoals] = u;
             within[subgoals] = g;
-            first[subgoals] = g == 0;
+            last[subgoals] = g == b->summary[chosen[u].summary].subgoals - 1;
         }
     }
     source_of(&b->question, source);
     struct bindings head = head_bindings(&b->question);
-    struct task to = {b->arity, source, b->question.subgoals, NULL, there, subgoals, NULL, NULL};
-    struct task fro = {b->arity, back, subgoals, first, b->question.body, b->question.subgoals, NULL, NULL};
+    struct task to = {b->arity, source, b->question.subgoals, NULL, there, subgoals, NULL};
+    struct task fro = {b->arity, back, subgoals, last, b->question.body, b->question.subgoals, NULL};
     if (!first_mapping(&to, head, places)) abort();
-    printf("there");
-    for (int i = 0; i < b->question.subgoals; i++) printf(" %d.%d", use[places[i]] + 1, within[places[i]] + 1);
+    for (int i = 0; i < b->question.subgoals; i++) {
+        *out++ = use[places[i]] + 1;
+        *out++ = within[places[i]] + 1;
+    }
     if (!first_mapping(&fro, head, places)) abort();
-    printf("\nback");
-    for (int i = 0; i < subgoals; i++) printf(" %d", places[i] + 1);
-    putchar('\n');
-}
-
-static void rewrite(const struct book *b) {
-    static struct row rows[ROWS];
-    static struct frame f;
-    struct row chosen[SUBGOALS];
-    int count = find_rows(b, rows);
-    if (count < 0) {
-        puts("refused 9 at 0");
-        return;
-    }
-    prepare(b, rows, count, &f);
-    int got = choose(&f, rows, chosen);
-    if (got == 0) {
-        puts("refused 10 at 0");
-        return;
-    }
-    print_leads(b);
-    print_rows(b, chosen, got);
-    print_witness(b, chosen, got);
+    for (int i = 0; i < subgoals; i++) *out++ = places[i] + 1;
+    return out - witness;
 }
 
 /* ---- books */
@@ -393,7 +437,6 @@ static void load(const uint8_t *bytes, struct book *b) {
     b->summaries = bytes[0];
     b->need = number(bytes + 22);
     memcpy(b->arity, bytes + number(bytes + 2), number(bytes + 6));
-    b->arity[HEAD_PLACE] = 1;
     load_rule(bytes + number(bytes + 14), b->arity, &b->question);
     for (int s = 0; s < b->summaries; s++) {
         const uint8_t *entry = bytes + 2 + 12 * (s + 2);
@@ -402,22 +445,76 @@ static void load(const uint8_t *bytes, struct book *b) {
     }
 }
 
+static struct outcome rewrite(const uint8_t *bytes, size_t length, struct book *b, uint8_t *answer, uint8_t *witness) {
+    static struct row rows[ROWS];
+    static struct frame f;
+    struct row chosen[SUBGOALS];
+    struct reading r = read_book(bytes, length);
+    if (r.number) return (struct outcome){r.number, r.place, 0, 0};
+    load(bytes, b);
+    int count = find_rows(b, rows);
+    if (count < 0) return (struct outcome){9, 0, 0, 0};
+    prepare(b, rows, count, &f);
+    int got = choose(&f, rows, chosen);
+    if (got == 0) return (struct outcome){10, 0, 0, 0};
+    int written = put_answer(b, chosen, got, answer);
+    return (struct outcome){0, 0, written, put_witness(b, chosen, got, witness)};
+}
+
+/* ---- the listing */
+
+static void print_leads(const struct book *b) {
+    printf("need %u\n", b->need);
+    for (int s = 0; s < b->summaries; s++) {
+        uint32_t distance = b->stamp[s] - b->need;
+        if (distance == 0x80000000) printf("view %d lead tie\n", s + 1);
+        else printf("view %d lead %d\n", s + 1, (int32_t)distance);
+    }
+}
+
+static void print_listing(const struct book *b, const uint8_t *answer, const uint8_t *witness, int length) {
+    print_leads(b);
+    printf("rewriting %d\n", answer[1]);
+    const uint8_t *at = answer + 2 + 5 * answer[0];
+    for (int i = 0; i < answer[1]; i++) {
+        int summary = *at++;
+        printf("%d", summary);
+        for (int h = 0; h < b->summary[summary - 1].heads; h++, at += 5) printf(" %c%u", at[0] ? 'c' : 'v', number(at + 1));
+        putchar('\n');
+    }
+    printf("there");
+    for (int i = 0; i < b->question.subgoals; i++) printf(" %d.%d", witness[2 * i], witness[2 * i + 1]);
+    printf("\nback");
+    for (int i = 2 * b->question.subgoals; i < length; i++) printf(" %d", witness[i]);
+    putchar('\n');
+}
+
+static int read_number(size_t *n) {
+    uint8_t bytes[4];
+    if (fread(bytes, 1, 4, stdin) < 4) return 0;
+    *n = number(bytes);
+    return 1;
+}
+
 int main(int words, char **word_of) {
     static struct book b;
-    uint8_t size[4];
-    while (fread(size, 1, 4, stdin) == 4) {
-        size_t length = number(size);
+    static uint8_t answer[ANSWER_ROOM], witness[WITNESS_ROOM];
+    int repeats = words > 1 && strcmp(word_of[1], "repeat") == 0;
+    int counts = words > 1 && strcmp(word_of[1], "guesses") == 0;
+    size_t times = 1, length;
+    while ((!repeats || read_number(&times)) && read_number(&length)) {
         uint8_t *bytes = malloc(length + 1);
         length = fread(bytes, 1, length, stdin);
-        struct reading r = read_book(bytes, length);
         guesses = 0;
-        if (r.number) printf("refused %d at %d\n", r.number, r.place);
-        else {
-            load(bytes, &b);
-            rewrite(&b);
-        }
-        if (words > 1 && strcmp(word_of[1], "guesses") == 0) fprintf(stderr, "%llu\n", (unsigned long long)guesses);
+        struct outcome got = rewrite(bytes, length, &b, answer, witness);
+        for (; times > 1; times--) got = rewrite(bytes, length, &b, answer, witness);
+        if (got.number) printf("refused %d at %d\n", got.number, got.place);
+        else if (repeats) printf("done %d %d\n", got.answer, got.witness);
+        else print_listing(&b, answer, witness, got.witness);
+        if (repeats) fflush(stdout);
+        if (counts) fprintf(stderr, "%llu\n", (unsigned long long)guesses);
         free(bytes);
+        times = 1;
     }
     return 0;
 }

@@ -2,7 +2,6 @@
 // bytes at their fronts, and nothing else changed; on a refusal nothing at all.
 use crate::reading::{read_book, Book, Refusal, Term};
 use crate::rewriting::{rewrite, Rewriting};
-use std::io::Write;
 
 /// The lengths of answer area and witness area, in the order in which they are tried.
 const AREAS: [(usize, usize); 5] = [(600, 150), (534, 120), (533, 120), (534, 119), (533, 119)];
@@ -51,20 +50,22 @@ fn bytes_of(book: &[u8]) -> Result<(Vec<u8>, Vec<u8>), Refusal> {
 }
 
 /// For each pair of areas a line of four numbers, then both areas.
-pub fn write_areas(book: &[u8], out: &mut impl Write) {
+pub fn areas(book: &[u8]) -> Vec<u8> {
     let told = bytes_of(book);
+    let mut out = Vec::new();
     for (answer_room, witness_room) in AREAS {
         let (mut answer, mut witness) = (pattern(answer_room, 3), pattern(witness_room, 100));
         let told = if answer_room < 534 || witness_room < 120 { &Err((1, 0)) } else { &told };
         match told {
-            Err((number, place)) => writeln!(out, "{} {} 0 0", number, place).unwrap(),
+            Err((number, place)) => out.extend(format!("{} {} 0 0\n", number, place).bytes()),
             Ok((a, w)) => {
-                writeln!(out, "0 0 {} {}", a.len(), w.len()).unwrap();
+                out.extend(format!("0 0 {} {}\n", a.len(), w.len()).bytes());
                 answer[..a.len()].copy_from_slice(a);
                 witness[..w.len()].copy_from_slice(w);
             }
         }
-        out.write_all(&answer).unwrap();
-        out.write_all(&witness).unwrap();
+        out.extend(answer);
+        out.extend(witness);
     }
+    out
 }

@@ -1,6 +1,7 @@
 // An independent reading of the specification: it shares nothing with the proved crates, and is
 // compared with them on many books. It takes a stream of books on standard input, each after its
-// length (4 bytes, little-endian), and writes what the program of that name must write for each.
+// length (4 bytes, little-endian), and writes what the program of that name must write for each; or the
+// line `gave up` where trying everything takes too long.
 //
 //     independent sound
 //     independent rewrite
@@ -21,20 +22,19 @@ fn main() {
         let size = u32::from_le_bytes([rest[0], rest[1], rest[2], rest[3]]) as usize;
         let end = rest.len().min(4 + size);
         let book = &rest[4..end];
-        match what.as_str() {
-            "areas" => areas::write_areas(book, &mut out),
-            "rewrite" => write_lines(rewrite(book), &mut out),
-            _ => write_lines(sound(book), &mut out),
-        }
+        let told = rewriting::within_tries(|| match what.as_str() {
+            "areas" => areas::areas(book),
+            "rewrite" => lines(rewrite(book)),
+            _ => lines(sound(book)),
+        });
+        out.write_all(&told.unwrap_or(b"gave up\n".to_vec())).unwrap();
         rest = &rest[end..];
     }
 }
 
-fn write_lines(answer: Result<String, reading::Refusal>, out: &mut impl Write) {
-    match answer {
-        Ok(text) => out.write_all(text.as_bytes()).unwrap(),
-        Err((number, place)) => writeln!(out, "refused {} at {}", number, place).unwrap(),
-    }
+fn lines(answer: Result<String, reading::Refusal>) -> Vec<u8> {
+    let text = answer.unwrap_or_else(|(number, place)| format!("refused {} at {}\n", number, place));
+    text.into_bytes()
 }
 
 fn sound(book: &[u8]) -> Result<String, reading::Refusal> {

@@ -2,7 +2,41 @@
 // and the lists of rows one after the other in the order of the specification. Slow where a book is
 // made to be hard; the comparisons use books that are not.
 use crate::reading::{Book, Refusal, Rule, Subgoal, Term};
+use std::cell::Cell;
 use std::collections::{BTreeMap, BTreeSet};
+
+/// A book that wants more tries than this is given up (some seconds at most).
+const MOST_TRIES: u64 = 20_000_000;
+
+thread_local! {
+    static TRIES: Cell<u64> = Cell::new(0);
+}
+
+/// What `work` makes of a book; None where it is given up.
+pub fn within_tries<T>(work: impl FnOnce() -> T) -> Option<T> {
+    TRIES.with(|tries| tries.set(0));
+    std::panic::set_hook(Box::new(|info| {
+        if info.payload().downcast_ref::<GivenUp>().is_none() {
+            eprintln!("{}", info);
+        }
+    }));
+    match std::panic::catch_unwind(std::panic::AssertUnwindSafe(work)) {
+        Ok(result) => Some(result),
+        Err(cause) if cause.is::<GivenUp>() => None,
+        Err(cause) => std::panic::resume_unwind(cause),
+    }
+}
+
+struct GivenUp;
+
+fn count_a_try() {
+    TRIES.with(|tries| {
+        tries.set(tries.get() + 1);
+        if tries.get() > MOST_TRIES {
+            std::panic::panic_any(GivenUp);
+        }
+    })
+}
 
 /// A summary's number and the terms in its head's places: their order is the specification's.
 pub type Row = (usize, Vec<Term>);
@@ -95,6 +129,7 @@ impl<'a, S: Ord + Copy, T: Eq + Copy> Search<'a, S, T> {
             if goal.relation != target.relation {
                 continue;
             }
+            count_a_try();
             let mut more = None; // the bindings are copied only where one is added
             let fits = goal.terms.iter().zip(&target.terms).all(|(s, t)| {
                 match more.as_ref().unwrap_or(bound).get(s) {
