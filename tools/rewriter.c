@@ -35,7 +35,6 @@ struct task {
     const uint8_t *first_of_use; /* the subgoals that begin a use, whose own slots are then unbound; or null */
     const word *target; int targets;
     const uint8_t *row_of; /* the row that a target belongs to; or null: all may be used */
-    const uint8_t *may; /* may[TARGETS * i + k]: whether subgoal i may go to target k; or null: all may */
 };
 
 /* Why a placing failed: the slots whose bindings did it, and whether the budget had a part in it. So: no
@@ -45,16 +44,71 @@ struct failure { word slots; int budget; };
 
 static uint64_t guesses;
 
+/* Whether the goal may still go to the target, for all that is bound. */
+static int suits(const struct task *t, const word *goal, const word *target, const struct bindings *b) {
+    if (target[0] != goal[0]) return 0;
+    for (int a = 1; a <= t->arity[goal[0]]; a++) {
+        word have = goal[a] < 64 ? b->of[goal[a]] : goal[a];
+        if (have != 0 && have != target[a]) return 0;
+    }
+    return 1;
+}
+
+/* The rows that have a target for the goal, a bit for each; where one of them is used already, `*used` is
+   set, and no more are looked for. */
+static word rows_with(const struct task *t, const word *goal, const struct bindings *b, const struct marks *marks, int *used) {
+    word rows = 0;
+    for (int k = 0; k < t->targets && !*used; k++) {
+        uint8_t mark = marks->row[t->row_of[k]];
+        if (mark == 0 || !suits(t, goal, t->target + WORDS * k, b)) continue;
+        rows |= (word)1 << t->row_of[k];
+        *used = mark == 2;
+    }
+    return rows;
+}
+
+static word slots_of(const struct task *t, const word *goal) {
+    word slots = 0;
+    for (int a = 1; a <= t->arity[goal[0]]; a++)
+        if (goal[a] < 64) slots |= (word)1 << goal[a];
+    return slots;
+}
+
+/* Answers 1, and says why, where it is seen that the subgoals from `at` on cannot all be sent: no row has a
+   target for one of them, or more of them want another row than the rows left have targets for. */
+static int in_vain(const struct task *t, int at, const struct bindings *b, const struct marks *marks, struct failure *why) {
+    uint64_t served[ROWS] = {0}, most = 0, many = 0;
+    why->slots = 0;
+    for (int i = at; i < t->sources; i++) {
+        const word *goal = t->source + WORDS * i;
+        int used = 0;
+        word rows = rows_with(t, goal, b, marks, &used);
+        if (rows == 0) {
+            *why = (struct failure){slots_of(t, goal), 0};
+            return 1;
+        }
+        if (used) continue;
+        many++;
+        why->slots |= slots_of(t, goal);
+        for (int r = 0; r < ROWS; r++) served[r] += rows >> r & 1;
+    }
+    for (int r = 0; r < ROWS; r++)
+        if (served[r] > most) most = served[r];
+    why->budget = 1;
+    return marks->left * most < many;
+}
+
 /* Sends the subgoals from `at` on, the first of them to targets from `from` on. Writes each one's
    target to `places` and answers 1 if it can be done, by the first way in order; else says why not. */
 static int place(const struct task *t, int at, struct bindings before, struct marks marks, int from, uint16_t *places, struct failure *why) {
     if (at == t->sources) return 1;
+    if (t->row_of && in_vain(t, at, &before, &marks, why)) return 0;
     const word *goal = t->source + WORDS * at;
     int arity = t->arity[goal[0]];
     struct failure all = {0, 0};
     for (int k = from; k < t->targets; k++) {
         const word *target = t->target + WORDS * k;
-        if (target[0] != goal[0] || (t->may && !t->may[TARGETS * at + k])) continue;
+        if (target[0] != goal[0]) continue;
         struct marks after = marks;
         if (t->row_of && marks.row[t->row_of[k]] != 2) {
             if (marks.row[t->row_of[k]] == 0) continue;
@@ -184,7 +238,7 @@ static int find_rows(const struct book *b, struct row *rows) {
             source[h * WORDS + 1] = slot(r->head[h]);
         }
         source_of(r, source + r->heads * WORDS);
-        struct task t = {b->arity, source, r->heads + r->subgoals, NULL, target, targets, NULL, NULL};
+        struct task t = {b->arity, source, r->heads + r->subgoals, NULL, target, targets, NULL};
         uint16_t places[8 + IN_SUMMARY];
         for (int more = first_mapping(&t, unbound, places); more; more = next_row(&t, r->heads, places)) {
             if (count == ROWS) return -1;
@@ -204,7 +258,7 @@ struct frame {
     int rows;
     uint8_t covers[ROWS][ROWS]; /* covers[v][r]: row v can stand in for row r, whose expansion goes into v's */
     word source[SUBGOALS * WORDS], target[TARGETS * WORDS];
-    uint8_t row_of[TARGETS], may[SUBGOALS * TARGETS];
+    uint8_t row_of[TARGETS];
 };
 
 /* The question's head stays as it is. */
@@ -215,38 +269,6 @@ static struct bindings head_bindings(const struct rule *q) {
     return b;
 }
 
-/* The bindings with the goal's terms sent to the target's; answers whether that can be done. */
-static int bind(const uint8_t *arity, const word *goal, const word *target, struct bindings *b) {
-    if (goal[0] != target[0]) return 0;
-    for (int a = 1; a <= arity[goal[0]]; a++) {
-        word have = goal[a] < 64 ? b->of[goal[a]] : goal[a];
-        if (have == 0) b->of[goal[a]] = target[a];
-        else if (have != target[a]) return 0;
-    }
-    return 1;
-}
-
-/* A subgoal may go to a target only if every other subgoal can then still go somewhere. */
-static void look_ahead(struct frame *f) {
-    struct task one = f->task; /* one subgoal alone, to any row */
-    uint16_t places[1];
-    one.sources = 1;
-    one.row_of = NULL;
-    memset(f->may, 1, sizeof f->may);
-    for (int i = 0; i < f->task.sources; i++)
-        for (int k = 0; k < f->task.targets; k++) {
-            struct bindings b = f->head;
-            int can = bind(f->task.arity, f->source + WORDS * i, f->target + WORDS * k, &b);
-            for (int h = 0; can && h < f->task.sources; h++) {
-                if (h == i) continue;
-                one.source = f->source + WORDS * h;
-                one.may = f->may + TARGETS * h;
-                can = first_mapping(&one, b, places);
-            }
-            f->may[TARGETS * i + k] = can;
-        }
-}
-
 static void find_covers(const struct book *b, const struct row *rows, struct frame *f, const int *start) {
     for (int r = 0; r < f->rows; r++) {
         word source[IN_SUMMARY * WORDS];
@@ -254,7 +276,7 @@ static void find_covers(const struct book *b, const struct row *rows, struct fra
         expand(b, &rows[r], r, AS_SOURCE, source);
         for (int v = 0; v < f->rows; v++) {
             struct task t = {b->arity, source, b->summary[rows[r].summary].subgoals, NULL,
-                             f->target + start[v] * WORDS, b->summary[rows[v].summary].subgoals, NULL, NULL};
+                             f->target + start[v] * WORDS, b->summary[rows[v].summary].subgoals, NULL};
             f->covers[v][r] = v != r && first_mapping(&t, unbound, places);
         }
     }
@@ -268,11 +290,10 @@ static void prepare(const struct book *b, const struct row *rows, int count, str
         for (int g = 0; g < b->summary[rows[r].summary].subgoals; g++) f->row_of[targets++] = r;
     }
     source_of(&b->question, f->source);
-    f->task = (struct task){b->arity, f->source, b->question.subgoals, NULL, f->target, targets, f->row_of, f->may};
+    f->task = (struct task){b->arity, f->source, b->question.subgoals, NULL, f->target, targets, f->row_of};
     f->head = head_bindings(&b->question);
     f->rows = count;
     find_covers(b, rows, f, start);
-    look_ahead(f);
 }
 
 /* Whether the used rows and at most `left` more of those that may be used take the whole question.
@@ -343,8 +364,8 @@ static void print_witness(const struct book *b, const struct row *chosen, int co
     }
     source_of(&b->question, source);
     struct bindings head = head_bindings(&b->question);
-    struct task to = {b->arity, source, b->question.subgoals, NULL, there, subgoals, NULL, NULL};
-    struct task fro = {b->arity, back, subgoals, first, b->question.body, b->question.subgoals, NULL, NULL};
+    struct task to = {b->arity, source, b->question.subgoals, NULL, there, subgoals, NULL};
+    struct task fro = {b->arity, back, subgoals, first, b->question.body, b->question.subgoals, NULL};
     if (!first_mapping(&to, head, places)) abort();
     printf("there");
     for (int i = 0; i < b->question.subgoals; i++) printf(" %d.%d", use[places[i]] + 1, within[places[i]] + 1);
