@@ -286,29 +286,6 @@ static struct bindings head_bindings(const struct rule *q) {
     return b;
 }
 
-/* Brings the question's subgoals in a good order: next always the one with the most terms bound. */
-static void order(struct frame *f) {
-    struct bindings b = f->head;
-    for (int i = 0; i < f->task.sources; i++) {
-        int best = i, most = 0;
-        word goal[WORDS];
-        for (int g = i; g < f->task.sources; g++) {
-            const word *one = f->source + WORDS * g;
-            int bound = 0;
-            for (int a = 1; a <= f->task.arity[one[0]]; a++) bound += stands(&b, one[a]) != 0;
-            if (bound > most) {
-                most = bound;
-                best = g;
-            }
-        }
-        memcpy(goal, f->source + WORDS * best, sizeof goal);
-        memmove(f->source + WORDS * (i + 1), f->source + WORDS * i, sizeof goal * (best - i));
-        memcpy(f->source + WORDS * i, goal, sizeof goal);
-        for (int a = 1; a <= f->task.arity[goal[0]]; a++)
-            if (goal[a] < 64) b.of[goal[a]] = 1;
-    }
-}
-
 static void find_covers(const struct book *b, const struct row *rows, struct frame *f, const int *start) {
     for (int r = 0; r < f->rows; r++) {
         word source[IN_SUMMARY * WORDS];
@@ -335,7 +312,6 @@ static void prepare(const struct book *b, const struct row *rows, int count, str
     f->head = head_bindings(&b->question);
     f->rows = count;
     find_covers(b, rows, f, start);
-    order(f);
 }
 
 /* Whether the used rows and at most `left` more of those that may be used take the whole question.

@@ -2,4 +2,3 @@ pub mod Posed
 pub mod Chosen
 pub mod Pruning
 pub mod Passing
-pub mod Ordering

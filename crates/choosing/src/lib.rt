@@ -6,7 +6,6 @@ ghost use Rattle.choosing.specs.Chosen.{Chooses};
 ghost use Rattle.choosing.specs.Pruning.{PosedWith};
 ghost use Rattle.choosing.specs.Passing.{nothing, found, starting, taking, passing, Fewest, Tried, Underway};
 
-mod order; // the order in which the search takes the subgoals
 pub mod prune; // rows that others dominate
 
 // How many rows are chosen, and their numbers, in order; or that no list of rows will do.
@@ -184,8 +183,8 @@ fn first_rows(
     some(p)
 }
 
-// The choice, with the source's subgoals in the order in which they stand.
-fn choose_as_given(
+// The first of the shortest equivalent lists of rows, by their numbers.
+pub fn choose(
     source: &[u64],
     widths: &[u8],
     lasts: &[u8],
@@ -203,34 +202,4 @@ fn choose_as_given(
         return first_rows(source, widths, lasts, target, own, b, dom, n, k);
     }
     none()
-}
-
-// The first of the shortest equivalent lists of rows, by their numbers. The subgoals are put in a good order first.
-pub fn choose(
-    source: &[u64],
-    widths: &[u8],
-    lasts: &[u8],
-    target: &[u64],
-    own: &[u8],
-    b: [u64; 64],
-    dom: &[u64; 64],
-    n: usize,
-) -> Chosen
-    requires { ⌜ PosedWith (posed (now source) (now widths) (now lasts) (now target) (now own)) b n (now dom) ⌝ }
-    ensures { λ r. ⌜ Chooses (posed (now (source .entry)) (now (widths .entry)) (now (lasts .entry)) (now (target .entry)) (now (own .entry))) b n r ⌝ }
-{
-    let goals = widths.len();
-    let order = order::order_of(source, widths, b);
-    let words = order::words_in(source, goals, &order);
-    let wide = order::widths_in(widths, &order);
-    choose_as_given(
-        &words[..9 * goals],
-        &wide[..goals],
-        lasts,
-        target,
-        own,
-        b,
-        dom,
-        n,
-    )
 }
