@@ -71,6 +71,13 @@ def named():
     ring = [(i, (i + 1) % 5) for i in range(5)]
     yield "symmetric-C5", "() from " + ", ".join("0(X%d,X%d), 0(X%d,X%d)" % (a, b, b, a) for a, b in ring), [
         "(A,B) from 0(A,B), 0(B,A)"] * 6
+    # columns shown in another order than the relation has them; and eight alike targets for each subgoal, in rows that are all wanted
+    columns = ["(%s)" % ",".join("X%d" % (8 * r + i) for i in range(8)) for r in range(3)]
+    yield "reversed", "(X0) from " + ", ".join("%d%s" % (r, columns[r]) for r in range(3)), [
+        "(H,G,F,E,D,C,B,A) from %d(A,B,C,D,E,F,G,H)" % r for r in range(3)]
+    eight = "(A,B,C,D,E,F,G,H)"
+    yield "eightfold", eight + " from " + ", ".join("%d%s" % (r, eight) for r in range(12)), [
+        eight + " from " + ", ".join(["%d%s" % (r, eight)] * 8) for r in range(12)]
     # folds: questions that are not cores
     loose = "() from " + pairs(0, 9, 0)
     yield "fold1", loose + ", 1(X20,X21), 2(X21)", ["() from " + free7 + ", 1(C,D)"] * 60 + ["() from " + free7 + ", 2(D)"] * 4
