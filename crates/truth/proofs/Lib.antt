@@ -1,0 +1,4 @@
+pub mod Own
+pub mod Same
+pub mod Witnessed
+pub mod AsRule

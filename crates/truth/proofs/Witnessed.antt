@@ -1,0 +1,21 @@
+-- "For an equivalent rewriting of 1 to 12 subgoals over admitted summaries, within the layout, some witness passes; for others none does."
+use mathlib.Core.Path.{_≡_, refl, sym, _∙_, subst}
+use mathlib.Core.Logic.{_↔_}
+use mathlib.Core.List.{List, _++_}
+use Prim.Native.Nat.{ℕ}
+use Rattle.words.specs.Words.{Rule}
+use Rattle.words.specs.Summaries.{Equivalent}
+use Rattle.words.specs.Book.{Book, admittedOf}
+use Rattle.words.specs.WitnessExists.{maps-there, maps-back}
+use Rattle.layout.specs.RuleLayout.{ruleBytes}
+use Rattle.layout.specs.BookLayout.{SoundBook}
+use Rattle.layout.proofs.BookUnique.{book-unique}
+use Rattle.truth.specs.Truth.{RewritingRule, Truth}
+use Rattle.truth.proofs.Same.{true-equivalent}
+
+module _ {book : List ℕ} (b : Book) (sound : SoundBook book b) (r : Rule ℕ) (is : RewritingRule b r) where
+  pub witness-for : Equivalent (admittedOf b) (b .question) r → (witness : List ℕ) × Truth book (ruleBytes r) witness
+  witness-for e =
+      let t = maps-there (admittedOf b) (b .question) r (e .there) in
+      let u = maps-back (admittedOf b) (b .question) r (e .back) in
+      (t .0 ++ u .0, record { value = b; sound = sound; rule = r; written = refl; is = is; there = t .0; back = u .0; whole = refl; goes = t .1 .holds; returns = u .1 .holds })
