@@ -15,12 +15,3 @@ pub mod MapsAt
 pub mod Placed
 pub mod Targets
 pub mod Placing
-pub mod Supported
-pub mod Viable
-pub mod Bound
-pub mod Mapped
-pub mod FirstAt
-pub mod Bytes
-pub mod Insides
-pub mod Naming
-pub mod Right
