@@ -3,7 +3,7 @@ use mathlib.Core.Path.{_≡_}
 use mathlib.Core.List.{List}
 use Prim.Native.Nat.{ℕ, _≤_}
 use lib.ListN.{length}
-use Rattle.words.specs.Words.{_∈_, Term, Subgoal, Rule}
+use Rattle.words.specs.Words.{Rule}
 use Rattle.words.specs.Summaries.{Summaries, SummaryRow, uses}
 use Rattle.words.specs.Order.{RowBefore}
 use Rattle.words.specs.Enumerate.{Enumerates}
@@ -12,15 +12,6 @@ use Rattle.frame.specs.Placed.{owners}
 use Rattle.placing.specs.Task.{Task}
 use Rattle.ties.specs.Bounds.{Bounds, RowsWithin, HeadBound}
 use Rattle.ties.specs.Tasks.{thereTask}
-
--- The same subgoals, perhaps in another order: a question does not change by the order of its subgoals, and the search is quicker in a good one.
-pub record Reordered (body given : List (Subgoal (Term ℕ))) : Type 0 where
-  pub inside : (g : Subgoal (Term ℕ)) → g ∈ body → g ∈ given
-  pub outside : (g : Subgoal (Term ℕ)) → g ∈ given → g ∈ body
-  pub long : length body ≡ length given
-
-abbrev pub ordered : Rule ℕ → List (Subgoal (Term ℕ)) → Rule ℕ
-ordered q body = record { head = q .head; body = body }
 
 -- The task is that of a sound question q over sound summaries s, whose n summary rows are `rows`, each row's targets in the row of its number.
 pub record PosedBy (s : Summaries) (q : Rule ℕ) (rows : Rows) (t : Task) (b : List ℕ) (n : ℕ) : Type 0 where
@@ -31,9 +22,7 @@ pub record PosedBy (s : Summaries) (q : Rule ℕ) (rows : Rows) (t : Task) (b : 
   pub within : RowsWithin s rows
   pub count : length rows ≡ n
   pub few : n ≤ 64
-  pub body : List (Subgoal (Term ℕ))
-  pub same : Reordered body (q .body)
-  pub words : t ≡ thereTask s (ordered q body) rows (t .lasts) (owners 0 (uses s 0 rows))
+  pub words : t ≡ thereTask s q rows (t .lasts) (owners 0 (uses s 0 rows))
   pub marked : length (t .lasts) ≡ length (q .body)
   pub head : HeadBound (q .head) b
 

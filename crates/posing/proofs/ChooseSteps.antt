@@ -1,5 +1,5 @@
 -- The task of choosing, as the words that are lent.
-use mathlib.Core.Path.{refl, _∙_}
+use mathlib.Core.Path.{_∙_}
 use mathlib.Core.List.{List}
 use Prim.Native.Nat.{ℕ, _*_}
 use native.Mathlib.Omega.{arith}
@@ -43,8 +43,6 @@ module _ {book rows : List ℕ} {n : ℕ} (a : Asked book rows n) {before source
       within = given .within;
       count = given .count;
       few = o .few;
-      body = b .question .body;
-      same = record { inside = λ g m. m; outside = λ g m. m; long = refl };
       words = λ i. posed (source-words b (o .sound) w i) (source-widths b (o .sound) w i) (take k (replicate 12 0)) (targets .is b all given i) (owned .is b all given i);
       marked = length-take-le k (replicate 12 0) (goals-few b (o .sound) w) ∙ w .count b (o .sound);
       head = head .is b (o .sound);
