@@ -12,18 +12,18 @@ SHORTEST = 35
 
 
 def term(text):
-    if text[0] == "X":
+    if text[0] == "X" and len(text) > 1:
         return (0, int(text[1:]))
     return (0, ord(text) - ord("A")) if text.isalpha() else (1, int(text))
 
 
 def terms(text):
-    return [term(t) for t in text.split(",")] if text else []
+    return [term(t.strip()) for t in text.split(",")] if text.strip() else []
 
 
 def rule(text):
     head, body = text.split(" from ")
-    return (terms(head[1:-1]), [(int(r), terms(ts)) for r, ts in re.findall(r"(\d+)\(([^)]*)\)", body)])
+    return (terms(head.strip()[1:-1]), [(int(r), terms(ts)) for r, ts in re.findall(r"(\d+)\(([^)]*)\)", body)])
 
 
 def rule_text(a_rule):

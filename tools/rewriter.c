@@ -91,9 +91,9 @@ static int is_vain(const struct task *t, int at, const struct bindings *b, struc
         }
         slots |= own;
         many++;
-        for (int r = 0; r < ROWS; r++) {
-            served[r] += has(found, r);
-            if (served[r] > most) most = served[r];
+        for (; found; found &= found - 1) {
+            int r = __builtin_ctzll(found);
+            if (++served[r] > most) most = served[r];
         }
     }
     if (many <= rows.left * most) return 0;
@@ -103,9 +103,9 @@ static int is_vain(const struct task *t, int at, const struct bindings *b, struc
 
 /* Sends the subgoals from `at` on. Writes each one's target to `places` and answers 1 if it can be
    done, by the first way in order; else says why not. */
-static int place(const struct task *t, int at, struct bindings before, struct rows rows, uint16_t *places, struct failure *why) {
+static int place(const struct task *t, int at, const struct bindings *before, struct rows rows, uint16_t *places, struct failure *why) {
     if (at == t->sources) return 1;
-    if (t->own && is_vain(t, at, &before, rows, why)) return 0;
+    if (rows.may && is_vain(t, at, before, rows, why)) return 0;
     const word *goal = t->source + WORDS * at;
     int arity = t->arity[goal[0]];
     struct failure all = {0, 0};
@@ -124,7 +124,7 @@ static int place(const struct task *t, int at, struct bindings before, struct ro
             after.left--;
         }
         guesses++;
-        struct bindings guess = before;
+        struct bindings guess = *before;
         word bound_here = 0;
         int a = 1;
         for (; a <= arity; a++) {
@@ -142,7 +142,7 @@ static int place(const struct task *t, int at, struct bindings before, struct ro
         if (ends_use) memset(guess.of + 32, 0, sizeof(word) * 32);
         struct failure below;
         places[at] = k;
-        if (place(t, at + 1, guess, after, places, &below)) return 1;
+        if (place(t, at + 1, &guess, after, places, &below)) return 1;
         if (ends_use) below.slots &= 0xffffffff;
         /* What failed has nothing to do with this guess: no other target can help. One in a row that was
            used already leaves the rows as they were, and no other guess leaves better ones. */
@@ -160,7 +160,7 @@ static int place(const struct task *t, int at, struct bindings before, struct ro
 static const struct bindings unbound;
 static const struct rows no_rows;
 
-static int first_mapping(const struct task *t, struct bindings before, uint16_t *places) {
+static int first_mapping(const struct task *t, const struct bindings *before, uint16_t *places) {
     struct failure why;
     return place(t, 0, before, no_rows, places, &why);
 }
@@ -218,7 +218,7 @@ static int begins(const struct heads *h, int j, const int *chosen) {
     struct bindings fixed = unbound;
     uint16_t places[IN_SUMMARY];
     for (int i = 0; i < j; i++) fixed.of[h->slot[i]] = h->term[chosen[i]];
-    return first_mapping(h->body, fixed, places);
+    return first_mapping(h->body, &fixed, places);
 }
 
 /* Place j gets the first term from `from` on with which some row begins; answers whether there is one. */
@@ -295,7 +295,7 @@ static void find_covers(const struct book *b, const struct row *rows, struct fra
         for (int v = 0; v < f->rows; v++) {
             struct task t = {b->arity, source, b->summary[rows[r].summary].subgoals, NULL,
                              f->target + start[v] * WORDS, b->summary[rows[v].summary].subgoals, NULL};
-            if (v != r && first_mapping(&t, unbound, places)) f->covers[r] = with(f->covers[r], v);
+            if (v != r && first_mapping(&t, &unbound, places)) f->covers[r] = with(f->covers[r], v);
         }
     }
 }
@@ -321,7 +321,7 @@ static int enough(const struct frame *f, struct rows rows) {
     struct failure why;
     for (int r = 0; r < f->rows; r++)
         if (f->covers[r] & (rows.used | rows.may)) rows.may &= ~((word)1 << r);
-    return place(&f->task, 0, f->head, rows, places, &why);
+    return place(&f->task, 0, &f->head, rows, places, &why);
 }
 
 /* Chooses the rows of the answer, in order; answers how many, 0 if no list works. */
@@ -384,12 +384,12 @@ static int put_witness(const struct book *b, const struct row *chosen, int count
     struct bindings head = head_bindings(&b->question);
     struct task to = {b->arity, source, b->question.subgoals, NULL, there, subgoals, NULL};
     struct task fro = {b->arity, back, subgoals, last, b->question.body, b->question.subgoals, NULL};
-    if (!first_mapping(&to, head, places)) abort();
+    if (!first_mapping(&to, &head, places)) abort();
     for (int i = 0; i < b->question.subgoals; i++) {
         *out++ = use[places[i]] + 1;
         *out++ = within[places[i]] + 1;
     }
-    if (!first_mapping(&fro, head, places)) abort();
+    if (!first_mapping(&fro, &head, places)) abort();
     for (int i = 0; i < subgoals; i++) *out++ = places[i] + 1;
     return out - witness;
 }
