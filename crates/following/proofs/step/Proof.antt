@@ -182,11 +182,13 @@ loop-again c =
     let width = c .before .before .before .before .before .before .before .width in
     let if1 = c .before .before .before .before .before .before .before .before .before .before .before .before .if1 in
     let a = c .before .before .before .before .before .before .before .before .before .before .before .before .before .before .before .before .before .before .args in
-    let w = c .before .before .before .before .before .before .before .before .before .before .before .before .before .before .before .before .before .before .pre in
-    (omega (arith, loop-test .taken), ⊎-elim
-    (λ y. rw (y .1) (guessed-new _ _ _ _ _ _ (l .inv .1) (sym (stands .ensures) ∙ y .0 .taken) (w .0 .solid (a .k) (l .a) (if1 .left) (omega (arith, width .ensures .1, loop-test .taken)))))
-    (λ y. rw (y .3) (guessed-same _ _ _ _ _ _ (l .inv .1) (λ e. y .0 .left (stands .ensures ∙ e)) (sym (stands .ensures) ∙ eqb-true _ _ (sym (y .1 .ensures) ∙ not-false _ (y .2 .left)))))
-    (if3 .came))
+    let w = c .before .before .before .before .before .before .before .before .before .before .before .before .before .before .before .before .before .before .pre in (
+      omega (arith, loop-test .taken),
+      ⊎-elim
+          (λ y. rw (y .1) (guessed-new _ _ _ _ _ _ (l .inv .1) (sym (stands .ensures) ∙ y .0 .taken) (w .0 .solid (a .k) (l .a) (if1 .left) (omega (arith, width .ensures .1, loop-test .taken)))))
+          (λ y. rw (y .3) (guessed-same _ _ _ _ _ _ (l .inv .1) (λ e. y .0 .left (stands .ensures ∙ e)) (sym (stands .ensures) ∙ eqb-true _ _ (sym (y .1 .ensures) ∙ not-false _ (y .2 .left)))))
+          (if3 .came),
+    )
 
 shared-slice-read-opened : tie.Need-shared-slice-read-opened Inv-loop μ-loop
 shared-slice-read-opened c =
