@@ -156,9 +156,13 @@ all-has x h =
     let q : 18446744073709551615 / 2 ^ x ≡ 2 ^ suc (63 - x) - 1 = ap (λ n. n / 2 ^ x) (rw j at s) ∙ high (2 ^ suc (63 - x) - 1) x (ones-lt x) in
     rw q (omega (arith, two-pow-succ (63 - x), ones-lt (63 - x)))
 
+-- two answers that are true exactly if the same thing holds are the same
+pub exactly-once : {P : Type 0} (r s : Bool) → (r ≡ true) ↔ P → (s ≡ true) ↔ P → r ≡ s
+exactly-once true true f g = refl
+exactly-once true false f g = sym (g .1 (f .0 refl))
+exactly-once false true f g = f .1 (g .0 refl)
+exactly-once false false f g = refl
+
 -- two answers on whether a set lies within another are the same
 pub within-once : (a b : ℕ) (r s : Bool) → Within a b r → Within a b s → r ≡ s
-within-once a b true true p q = refl
-within-once a b true false p q = sym (q .exactly .1 (p .exactly .0 refl))
-within-once a b false true p q = p .exactly .1 (q .exactly .0 refl)
-within-once a b false false p q = refl
+within-once a b r s p q = exactly-once r s (p .exactly) (q .exactly)

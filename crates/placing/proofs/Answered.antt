@@ -10,7 +10,7 @@ use native.Mathlib.Numerals.{add-one}
 use lib.ListN.{length, getD, set, replicate}
 use Rattle.bits.specs.Sets.{Has, with}
 use Rattle.words.specs.Order.{ListBefore, First}
-use Rattle.placing.specs.Task.{Task, goals, targets, targetRelation, sourceRelation, widthOf, lastOf, rowOf, Agrees, Linked, Completes, done, put, Extends}
+use Rattle.placing.specs.Task.{Task, goals, targets, targetRelation, sourceRelation, widthOf, lastOf, rowOf, Completes, done}
 use Rattle.placing.specs.Taking.{Enters, leftAfter, Affords, Open}
 use Rattle.placing.specs.Mapped.{laid}
 use Rattle.placing.specs.Answer.{AgreesOn, FromOn, Completion, Afforded, Failed, Answer}
@@ -25,30 +25,11 @@ use Rattle.placing.proofs.Guess.{Guess}
 use Rattle.placing.proofs.Open.{open-with, open-tail, affords-open}
 use Rattle.placing.proofs.Taken.{affords-free}
 use Rattle.placing.proofs.Laid.{laid-none, laid-put}
-use Rattle.placing.proofs.Crossing.{through, carry, before}
+use Rattle.placing.proofs.Crossing.{carry}
+use Rattle.placing.proofs.Onward.{step, after, onward}
 use Rattle.placing.proofs.Refuted.{Way, Refuted, from-zero}
 
--- every completion puts the source subgoal at somewhere
-record Step (p : Task) (at : ℕ) (v : ℕ → ℕ) (js : List ℕ) : Type 0 where
-  k : ℕ
-  ks : List ℕ
-  w : ℕ → ℕ
-  is : js ≡ k ∷ ks
-  within : k < targets p
-  agrees : Agrees p v at k
-  linked : Linked p at v w
-  rest : Completes p (goals p - suc at) (suc at) w ks
-
-taken : (p : Task) (at : ℕ) (v : ℕ → ℕ) (js : List ℕ) → Completes p (suc (goals p - suc at)) at v js → Step p at v js
-taken p at v js (put i g n s) = record { k = _; ks = _; w = _; is = refl; within = i; agrees = g; linked = n; rest = s }
-
 module _ (p : Task) (at : ℕ) (b : List ℕ) (from : ℕ) (rows : Rows) (more : at < goals p) where
-  again : goals p - at ≡ suc (goals p - suc at)
-  again = omega arith
-
-  step : (v : ℕ → ℕ) (js : List ℕ) → Completes p (goals p - at) at v js → Step p at v js
-  step v js q = taken p at v js (rw again at q)
-
   -- every target is passed over
   pub answer-none : (why : Reasons) (m : ℕ) → targets p ≤ m → Refuted p at b from rows why m → Answer p at b from rows (failed why)
   unfolding Refuted
@@ -56,7 +37,7 @@ module _ (p : Task) (at : ℕ) (b : List ℕ) (from : ℕ) (rows : Rows) (more :
     where
       never : (v : ℕ → ℕ) (l : List ℕ) → AgreesOn b (why .slots) v → FromOn from l → Completes p (goals p - at) at v l → Open p (rows .used) (rows .may) l → (why .short ≡ true → Affords p (rows .used) (rows .may) (rows .left) l) → ⊥
       never v l a f q o d =
-          let s = step v l q in
+          let s = step p at more v l q in
           ref (s .k) (rw (s .is) at f) (omega (arith, s .within)) (record { v = v; w = s .w; l = s .ks; agreesOn = a; agrees = s .agrees; linked = s .linked; rest = s .rest; allowed = rw (s .is) at o; affords = λ y. rw (s .is) at (d y) })
 
   module _ (k : ℕ) (g h : List ℕ) (new : ℕ) (c : Guess p b at k (widthOf p at) g new) (o : Opened (lastOf p at) g h) where
@@ -71,7 +52,7 @@ module _ (p : Task) (at : ℕ) (b : List ℕ) (from : ℕ) (rows : Rows) (more :
 
         never : (v : ℕ → ℕ) (l : List ℕ) → AgreesOn b (seeing less (lastOf p at) .slots) v → FromOn from l → Completes p (goals p - at) at v l → Open p (rows .used) (rows .may) l → (less .short ≡ true → Affords p (rows .used) (rows .may) (rows .left) l) → ⊥
         never v l a t q i d =
-            let s = step v l q in
+            let s = step p at more v l q in
             f .never (s .w) (s .ks)
             (carry p at g h o less v (s .w) (s .linked) (λ x j y. elim (ℕ-discrete (getD b x 0) 0) [
               | yes z ↦ absurd (m .apart x j (c .noted x y z))
@@ -83,25 +64,7 @@ module _ (p : Task) (at : ℕ) (b : List ℕ) (from : ℕ) (rows : Rows) (more :
     -- found below: the first places
     module _ (why : Reasons) (i : k < targets p) (fk : from ≤ k) (rel : targetRelation p k ≡ sourceRelation p at) (e : Enters (rows .used) (rows .may) (rows .left) (rowOf p k)) (ref : Refuted p at b from rows why k) (l : List ℕ) (f : First (Afforded p (suc at) h 0 (entering rows (rowOf p k))) (ListBefore _<_) l) where
       here : Afforded p at b from rows (k ∷ l)
-      here =
-          let d = f .holds .completion in
-          let u = before p at g h o (d .val) (d .extends) in
-          record {
-            completion = record {
-              val = u .0;
-              extends = λ x n. u .1 x (λ z. n (sym (c .keeps x n) ∙ z)) ∙ c .keeps x n;
-              fromOn = fk;
-              completes = rw again (put i (record { relation = rel; terms = c .fits (u .0) (u .1) }) (u .2) (d .completes));
-            };
-            affords = (e, f .holds .affords);
-          }
-
-      -- other values that go over the same target have what is bound
-      after : (u w : ℕ → ℕ) → Extends b u → Agrees p u at k → Linked p at u w → Extends h w
-      after u w y a n x d =
-          let t = through p at g h o u w x n d in
-          let q : getD g x 0 ≡ 0 → ⊥ = λ z. d (t .0 ∙ z) in
-          t .1 ∙ elim (ℕ-discrete (getD b x 0) 0) [ yes z ↦ c .forced u x (a .terms) q z | no z ↦ y x z ∙ sym (c .keeps x z) ] ∙ sym (t .0)
+      here = record { completion = onward p at b k g h new c o more i rel from fk l (f .holds .completion); affords = (e, f .holds .affords) }
 
       Later : List ℕ → Type 0
       Later js = ((k ∷ l) ≡ js) ⊎ ListBefore _<_ (k ∷ l) js
@@ -115,13 +78,13 @@ module _ (p : Task) (at : ℕ) (b : List ℕ) (from : ℕ) (rows : Rows) (more :
       unfolding Refuted Later
       least js a =
           let d = a .completion in
-          let s = step (d .val) js (d .completes) in
+          let s = step p at more (d .val) js (d .completes) in
           let y : Affords p (rows .used) (rows .may) (rows .left) (s .k ∷ s .ks) = rw (s .is) at (a .affords) in
           rw (s .is) (elim (decLt k (s .k)) [
             | yes j ↦ inr (inl j)
             | no j ↦ elim (ℕ-discrete (s .k) k) [
               | yes z ↦ rw z (same (s .ks) (f .least (s .ks) (record {
-                completion = record { val = s .w; extends = after (d .val) (s .w) (d .extends) (rw z at (s .agrees)) (s .linked); fromOn = from-zero (s .ks); completes = s .rest };
+                completion = record { val = s .w; extends = after p at b k g h new c o (d .val) (s .w) (d .extends) (rw z at (s .agrees)) (s .linked); fromOn = from-zero (s .ks); completes = s .rest };
                 affords = rw z at (y .1);
               })))
               | no z ↦ absurd (ref (s .k) (rw (s .is) at (d .fromOn)) (omega arith) (record { v = d .val; w = s .w; l = s .ks; agreesOn = λ x m. d .extends x; agrees = s .agrees; linked = s .linked; rest = s .rest; allowed = affords-open p (rows .used) (rows .may) (rows .left) (s .k ∷ s .ks) y; affords = λ m. y }))

@@ -35,6 +35,10 @@ module _ (p : Task) (b : List ℕ) (i k : ℕ) where
         fits = λ v e a h. absurd (omega arith);
       }
 
+  -- what is bound now is so under all values that agree so far and have what was bound before
+  pub guess-known : (a : ℕ) (g : List ℕ) (new : ℕ) → Guess p b i k a g new → (v : ℕ → ℕ) (x : ℕ) → TermsAgree p v i k a → ((getD b x 0 ≡ 0 → ⊥) → v x ≡ getD b x 0) → (getD g x 0 ≡ 0 → ⊥) → v x ≡ getD g x 0
+  guess-known a g new c v x u e f = elim (ℕ-discrete (getD b x 0) 0) [ yes z ↦ c .forced v x u f z | no n ↦ e n ∙ sym (c .keeps x n) ]
+
   less : (v : ℕ → ℕ) (a : ℕ) → TermsAgree p v i k (a + 1) → TermsAgree p v i k a
   less v a u j h = u j (omega arith)
 

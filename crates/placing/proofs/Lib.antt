@@ -6,6 +6,7 @@ pub mod Open
 pub mod Without
 pub mod Taken
 pub mod Crossing
+pub mod Onward
 pub mod Total
 pub mod Vain
 pub mod Looking

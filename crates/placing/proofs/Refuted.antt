@@ -5,7 +5,7 @@ use mathlib.Core.Logic.{_⊎_, inl, inr}
 use mathlib.Core.List.{List, [], _∷_, List·Memᴰ·head}
 use Prim.Native.Nat.{ℕ, zero, suc, _+_, _-_, _<_, _≤_}
 use native.Mathlib.Omega.{arith}
-use native.Mathlib.Decide.{ℕ-discrete, decLt}
+use native.Mathlib.Decide.{decLt}
 use lib.ListN.{length, getD, List·getD-eq-default}
 use Rattle.bits.specs.Sets.{Has}
 use Rattle.bits.proofs.Laws.{or-left, or-right}
@@ -17,7 +17,7 @@ use Rattle.placing.specs.declared.Reasons.{Reasons}
 use Rattle.placing.specs.declared.Rows.{Rows}
 use Rattle.placing.specs.declared.Entered.{Entered}
 use Rattle.placing.proofs.Slots.{stood-value, noting-new, noting-old}
-use Rattle.placing.proofs.Guess.{Guess, TermsAgree}
+use Rattle.placing.proofs.Guess.{Guess, TermsAgree, guess-known}
 use Rattle.placing.proofs.Open.{open-with, open-tail}
 use Rattle.placing.proofs.Crossing.{carry}
 
@@ -72,10 +72,7 @@ module _ (p : Task) (at : ℕ) (b : List ℕ) (from : ℕ) (rows : Rows) where
   -- what a guess bound is forced, or known by the reasons
   module _ (k a : ℕ) (g : List ℕ) (new : ℕ) (c : Guess p b at k a g new) where
     known : (slots : ℕ) (v : ℕ → ℕ) (x : ℕ) → TermsAgree p v at k a → AgreesOn b slots v → Has slots x → (getD g x 0 ≡ 0 → ⊥) → v x ≡ getD g x 0
-    known slots v x u e h f = elim (ℕ-discrete (getD b x 0) 0) [
-      | yes z ↦ c .forced v x u f z
-      | no n ↦ e x h n ∙ sym (c .keeps x n)
-    ]
+    known slots v x u e h = guess-known p b at k a g new c v x u (e x h)
 
     bound-slot : (x : ℕ) → (getD g x 0 ≡ 0 → ⊥) → x < 64
     bound-slot x d = elim (decLt x 64) [ yes i ↦ i | no i ↦ absurd (d (List·getD-eq-default g 0 (omega (arith, c .long)))) ]

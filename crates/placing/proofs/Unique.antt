@@ -1,9 +1,9 @@
 -- Two results that meet a public function's promise are the same.
 use mathlib.Core.Bool.{Bool, true, false}
 use mathlib.Core.Path.{_≡_, refl, ap, sym, _∙_}
-use mathlib.Core.Logic.{_↔_}
 use mathlib.Core.List.{List}
 use Prim.Native.Nat.{ℕ}
+use Rattle.bits.proofs.Laws.{exactly-once}
 use Rattle.words.specs.Strict.{first-unique}
 use Rattle.words.specs.Orders.{bytesOrder}
 use Rattle.placing.specs.Task.{Task}
@@ -32,7 +32,4 @@ pub first-places-unique : (p : Task) (b : List ℕ) (r s : Places) → FirstPlac
 first-places-unique p b = first-of-unique _ 0
 
 pub enough-unique : (p : Task) (b : List ℕ) (used may left : ℕ) (r s : Bool) → Enough p b used may left r → Enough p b used may left s → r ≡ s
-enough-unique p b used may left true true f g = refl
-enough-unique p b used may left true false f g = sym (g .exactly .1 (f .exactly .0 refl))
-enough-unique p b used may left false true f g = f .exactly .1 (g .exactly .0 refl)
-enough-unique p b used may left false false f g = refl
+enough-unique p b used may left r s f g = exactly-once r s (f .exactly) (g .exactly)

@@ -45,7 +45,7 @@ struct Entered {
 }
 
 // Two terms are compared by tag, then by number.
-fn alike(x: u64, y: u64) -> bool
+pub fn alike(x: u64, y: u64) -> bool
     ensures { λ r. ⌜ r ≡ eqb x y ⌝ }
 {
     if x / 4294967296 != y / 4294967296 {
@@ -55,7 +55,7 @@ fn alike(x: u64, y: u64) -> bool
 }
 
 // How many of a subgoal's terms count.
-fn width(x: u8) -> usize
+pub fn width(x: u8) -> usize
     requires { ⌜ x ≤ 8 ⌝ }
     ensures { λ r. ⌜ (r ≡ x) × (r ≤ 8) ⌝ }
 {
@@ -63,7 +63,7 @@ fn width(x: u8) -> usize
 }
 
 // What a source term stands for so far: 0 for a slot that is not bound.
-fn stands(g: &[u64; 64], x: u64) -> u64
+pub fn stands(g: &[u64; 64], x: u64) -> u64
     ensures { λ r. ⌜ r ≡ stood (now (g .entry)) x ⌝ }
 {
     if x < 64 {
@@ -84,7 +84,7 @@ fn noted(set: u64, x: u64) -> u64
 }
 
 // Where a use has ended, the next one's own variables are not bound.
-fn opened(g: [u64; 64], last: u8) -> [u64; 64]
+pub fn opened(g: [u64; 64], last: u8) -> [u64; 64]
     ensures { λ h. ⌜ Opened last g h ⌝ }
 {
     let mut h = g;

@@ -1,0 +1,3 @@
+pub mod Stepping
+pub mod Going
+pub mod Unique

@@ -1,0 +1,111 @@
+// Places that are given, not searched: whether they are those of a mapping. One pass, a subgoal after the other, binds each slot where it is met first.
+ghost use mathlib.Core.Path.{_≡_};
+ghost use Prim.Native.Nat.{_<_};
+ghost use lib.ListN.{length};
+ghost use Rattle.placing.specs.Task.{posed, Sized};
+ghost use Rattle.following.specs.Follows.{Follows};
+ghost use Rattle.following.specs.Leads.{Leads};
+use placing::alike;
+use placing::opened;
+use placing::stands;
+use placing::width;
+
+// Whether a source subgoal becomes its target, and then what is bound for the next one.
+struct Next {
+    ok: bool,
+    bound: [u64; 64],
+}
+
+// A place as an index.
+fn wide(k: u16) -> usize
+    ensures { λ r. ⌜ r ≡ k ⌝ }
+{
+    k as usize
+}
+
+// The source subgoal i is put on the target k.
+fn step(
+    source: &[u64],
+    widths: &[u8],
+    lasts: &[u8],
+    target: &[u64],
+    own: &[u8],
+    i: usize,
+    k: usize,
+    b: [u64; 64],
+) -> Next
+    requires { ⌜ Sized (posed (now source) (now widths) (now lasts) (now target) (now own)) ⌝ }
+    requires { ⌜ i < length (now widths) ⌝ }
+    ensures { λ r. ⌜ Leads (posed (now (source .entry)) (now (widths .entry)) (now (lasts .entry)) (now (target .entry)) (now (own .entry))) b i k r ⌝ }
+{
+    if own.len() <= k {
+        return Next {
+            ok: false,
+            bound: b,
+        };
+    }
+    if target[9 * k] != source[9 * i] {
+        return Next {
+            ok: false,
+            bound: b,
+        };
+    }
+    let mut g = b;
+    for a in 0..width(widths[i]) {
+        let x = source[9 * i + 1 + a];
+        let y = target[9 * k + 1 + a];
+        let have = stands(&g, x);
+        if have == 0 {
+            g[x as usize] = y;
+        } else if !alike(have, y) {
+            return Next {
+                ok: false,
+                bound: b,
+            };
+        }
+    }
+    let bound = opened(g, lasts[i]);
+    Next { ok: true, bound }
+}
+
+// The pass itself, over a copy of the places: an array by value is known to have its length.
+fn passes(
+    source: &[u64],
+    widths: &[u8],
+    lasts: &[u8],
+    target: &[u64],
+    own: &[u8],
+    b: [u64; 64],
+    ks: [u16; 96],
+) -> bool
+    requires { ⌜ Sized (posed (now source) (now widths) (now lasts) (now target) (now own)) ⌝ }
+    ensures { λ r. ⌜ Follows (posed (now (source .entry)) (now (widths .entry)) (now (lasts .entry)) (now (target .entry)) (now (own .entry))) b ks r ⌝ }
+{
+    let mut g = b;
+    for i in 0..widths.len() {
+        let next = step(source, widths, lasts, target, own, i, wide(ks[i]), g);
+        if !next.ok {
+            return false;
+        }
+        let h = next.bound;
+        g = h;
+    }
+    true
+}
+
+// Whether the places given are those of a mapping: one pass, no search.
+pub fn follows(
+    source: &[u64],
+    widths: &[u8],
+    lasts: &[u8],
+    target: &[u64],
+    own: &[u8],
+    b: [u64; 64],
+    ks: &[u16; 96],
+) -> bool
+    requires { ⌜ Sized (posed (now source) (now widths) (now lasts) (now target) (now own)) ⌝ }
+    ensures { λ r. ⌜ Follows (posed (now (source .entry)) (now (widths .entry)) (now (lasts .entry)) (now (target .entry)) (now (own .entry))) b (now (ks .entry)) r ⌝ }
+{
+    let places = *ks;
+    passes(source, widths, lasts, target, own, b, places)
+}
