@@ -286,6 +286,12 @@ static struct bindings head_bindings(const struct rule *q) {
     return b;
 }
 
+static int has_relation(const word *targets, int count, word relation) {
+    for (int k = 0; k < count; k++)
+        if (targets[k * WORDS] == relation) return 1;
+    return 0;
+}
+
 static void find_covers(const struct book *b, const struct row *rows, struct frame *f, const int *start) {
     for (int r = 0; r < f->rows; r++) {
         word source[IN_SUMMARY * WORDS];
@@ -295,7 +301,7 @@ static void find_covers(const struct book *b, const struct row *rows, struct fra
         for (int v = 0; v < f->rows; v++) {
             struct task t = {b->arity, source, b->summary[rows[r].summary].subgoals, NULL,
                              f->target + start[v] * WORDS, b->summary[rows[v].summary].subgoals, NULL};
-            if (v != r && first_mapping(&t, &unbound, places)) f->covers[r] = with(f->covers[r], v);
+            if (v != r && has_relation(t.target, t.targets, source[0]) && first_mapping(&t, &unbound, places)) f->covers[r] = with(f->covers[r], v);
         }
     }
 }

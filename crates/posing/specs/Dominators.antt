@@ -1,9 +1,9 @@
 -- Which rows dominate a row, on words: its own use as a source, the uses of all rows as targets.
 use mathlib.Core.Path.{_≡_}
-use mathlib.Core.Bool.{Bool, true}
+use mathlib.Core.Bool.{Bool, true, false}
 use mathlib.Core.Logic.{_↔_}
 use mathlib.Core.List.{List}
-use Prim.Native.Nat.{ℕ, _+_, _<_, _≤_}
+use Prim.Native.Nat.{ℕ, _+_, _*_, _/_, _<_, _≤_}
 use lib.ListN.{length, getD, take}
 use Rattle.words.specs.Words.{Rule}
 use Rattle.words.specs.Summaries.{Summaries, inPlace, uses, joined}
@@ -51,6 +51,10 @@ pub record SomePair (source widths target : List ℕ) : Type 0 where
   pub d : ℕ
   pub r : ℕ
   pub is : Pair summaries rows d r source widths target
+
+-- Where the answer is no, none of the target's subgoals is of that relation.
+pub record NoRelation (target : List ℕ) (relation : ℕ) (answer : Bool) : Type 0 where
+  pub none : answer ≡ false → (k : ℕ) → k < length target / 9 → getD target (9 * k) 0 ≡ relation → ⊥
 
 pub record TellsPair (source widths target : List ℕ) (answer : Bool) : Type 0 where
   pub exactly : (s : Summaries) (rows : Rows) (d r : ℕ) → Pair s rows d r source widths target → (answer ≡ true) ↔ Dominates s rows d r

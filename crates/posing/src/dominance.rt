@@ -2,16 +2,35 @@
 ghost use Prim.Native.Nat.{_<_, _≤_};
 ghost use Rattle.expanding.specs.Given.{RowsGiven};
 ghost use Rattle.posing.specs.Targets.{Targets};
-ghost use Rattle.posing.specs.Dominators.{SomePair, TellsPair, SomeAgainst, TellsAgainst, Onto, DominatorsOf, Dominance};
+ghost use Rattle.posing.specs.Dominators.{NoRelation, SomePair, TellsPair, SomeAgainst, TellsAgainst, Onto, DominatorsOf, Dominance};
 use choosing::prune::dominates;
 use expanding::all::use_starts;
 use expanding::one::kept_use;
+
+// Whether one of the target's subgoals is of that relation.
+fn has_relation(target: &[u64], relation: u64) -> bool
+    ensures { λ r. ⌜ NoRelation (now (target .entry)) relation r ⌝ }
+{
+    let targets = target.len() / 9;
+    let mut k: usize = 0;
+    while k < targets {
+        if target[9 * k] == relation {
+            return true;
+        }
+        k += 1;
+    }
+    false
+}
 
 // Whether the source's use goes into the target's. Both are single uses: what is marked beside their subgoals does not matter.
 fn goes_into(source: &[u64], widths: &[u8], target: &[u64]) -> bool
     requires { ⌜ SomePair (now source) (now widths) (now target) ⌝ }
     ensures { λ r. ⌜ TellsPair (now (source .entry)) (now (widths .entry)) (now (target .entry)) r ⌝ }
 {
+    // most pairs have nothing in common, and the search need not be asked
+    if !has_relation(target, source[0]) {
+        return false;
+    }
     let lasts = [0u8; 8];
     let own = [0u8; 8];
     let goals = widths.len();
