@@ -15,8 +15,7 @@ abbrev μ-loop : tie.MeasureT-loop
 μ-loop source widths lasts target own ks g₀ i₀ i-end g i = i-end - i
 
 loop-holds : tie.Need-loop-holds Inv-loop μ-loop
-loop-holds c =
-    going-start _ _ _
+loop-holds c = going-start _ _ _
 
 mul-wide : tie.Need-mul-wide Inv-loop μ-loop
 mul-wide c =
@@ -34,7 +33,7 @@ step-requires : tie.Need-step-requires Inv-loop μ-loop
 step-requires c κs =
     let loop-test = c .before .loop-test in
     let w = c .before .before .before .before .before .before .before .before .pre in
-    (w, loop-test .taken)
+    (w, omega (arith, loop-test .taken))
 
 returns : tie.Need-returns Inv-loop μ-loop
 returns c =
@@ -45,7 +44,7 @@ returns c =
     let l = c .before .before .before .before .before .loop in
     let good = c .before .before .before .before .before .before .before .before .before .before .before .good in
     let w = c .before .before .before .before .before .before .before .before .before .before .before .pre in
-    going-never _ _ _ _ _ (l .inv) (search (needs, good .1 .1 .1 .1 .1 .1)) (w .few) (loop-test .taken) _ (rw (wide .ensures) at (step .ensures)) (not-true _ (if1 .taken))
+    going-never _ _ _ _ _ (l .inv) (search (needs, good .1 .1 .1 .1 .1 .1)) (w .few) (omega (arith, loop-test .taken)) _ (rw (wide .ensures) at (step .ensures)) (not-true _ (if1 .taken))
 
 add-i : tie.Need-add-i Inv-loop μ-loop
 add-i c =
@@ -62,13 +61,13 @@ loop-again c =
     let l = c .before .before .before .before .before .before .loop in
     let good = c .before .before .before .before .before .before .before .before .before .before .before .before .good in
     let w = c .before .before .before .before .before .before .before .before .before .before .before .before .pre in
-    going-more _ _ _ _ _ (l .inv) (search (needs, good .1 .1 .1 .1 .1 .1)) (w .few) (loop-test .taken) _ (rw (wide .ensures) at (step .ensures)) (not-false _ (if1 .left))
+    going-more _ _ _ _ _ (l .inv) (search (needs, good .1 .1 .1 .1 .1 .1)) (w .few) (omega (arith, loop-test .taken)) _ (rw (wide .ensures) at (step .ensures)) (not-false _ (if1 .left))
 
 returns-2 : tie.Need-returns-2 Inv-loop μ-loop
 returns-2 c =
     let loop-test = c .loop-test in
     let l = c .before .loop in
-    going-end _ _ _ _ _ (l .inv) (loop-test .left)
+    going-end _ _ _ _ _ (l .inv) (omega (arith, loop-test .left))
 
 pub passes-spec : {M : Type 1} → statement M
 passes-spec =
