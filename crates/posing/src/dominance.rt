@@ -11,9 +11,9 @@ use expanding::one::kept_use;
 fn has_relation(target: &[u64], relation: u64) -> bool
     ensures { λ r. ⌜ NoRelation (now (target .entry)) relation r ⌝ }
 {
-    let targets = target.len() / 9;
+    let many = target.len() / 9;
     let mut k: usize = 0;
-    while k < targets {
+    while k < many {
         if target[9 * k] == relation {
             return true;
         }

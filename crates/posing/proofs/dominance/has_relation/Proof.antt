@@ -10,10 +10,10 @@ use Rattle.posing.proofs.dominance.has_relation.Tie as tie
 
 -- none of the first k subgoals is of the relation
 abbrev Inv-loop : tie.InvT-loop
-Inv-loop target relation targets k₀ k = (targets ≡ length target / 9) × (k ≤ targets) × ((j : ℕ) → j < k → getD target (9 * j) 0 ≡ relation → ⊥)
+Inv-loop target relation many k₀ k = (many ≡ length target / 9) × (k ≤ many) × ((j : ℕ) → j < k → getD target (9 * j) 0 ≡ relation → ⊥)
 
 abbrev μ-loop : tie.MeasureT-loop
-μ-loop target relation targets k₀ k = targets - k
+μ-loop target relation many k₀ k = many - k
 
 loop-holds : tie.Need-loop-holds Inv-loop μ-loop
 loop-holds c = (refl, omega arith, λ j h e. omega arith)
