@@ -31,7 +31,7 @@ use Rattle.ties.proofs.Granted.{book-bounds, rows-bounds}
 use Rattle.expanding.specs.Given.{RowOf, RowGiven, RowsOf}
 use Rattle.expanding.proofs.RowUse.{summary-few}
 use Rattle.expanding.proofs.SummaryRows.{summary-rows}
-use Rattle.telling.specs.Told.{Tells, TellsOf, ThereOf, ThereTold, BackOf, BackTold}
+use Rattle.telling.specs.Told.{FewOf, Tells, ThereOf, ThereTold, BackOf, BackTold}
 use Rattle.rewriter.specs.Rewriting.{Accepted}
 use Rattle.rewriter.specs.Steps.{Puts}
 
@@ -69,11 +69,11 @@ module _ {book words widths : List ℕ} {k answer witness : ℕ} (p : Puts book 
   rows-of : RowsOf book words k b l
   rows-of = summary-rows b l (p .sound) (p .answers .holds .rows) (p .count) words-front
 
-  tells-of : TellsOf book words k b l
-  tells-of = record { rows-of = rows-of; few = p .short; equivalent = p .answers .holds .equivalent }
+  few-of : FewOf book words k b l
+  few-of = record { rows-of = rows-of; few = p .short }
 
   pub tells : Tells book words k
-  tells = record { value = b; list = l; is = tells-of }
+  tells = record { some = record { value = b; list = l; is = few-of }; serves = p .answers .holds .equivalent }
 
   pub question-there : Loads book × (1 < entriesIn book)
   question-there = (book-loads (p .sound), entries-some book)
@@ -128,10 +128,10 @@ module _ {book words widths : List ℕ} {k : ℕ} (a w : List ℕ) (p : Puts boo
 
   module _ {w₁ w₂ : List ℕ} {m n : ℕ} (there : ThereTold book words k w w₁ m) (back : BackTold book words k m w₁ w₂ n) where
     goes : ThereOf (p .value) (p .list) w w₁ m
-    goes = there .is (p .value) (p .list) (tells-of p)
+    goes = there .is (p .value) (p .list) (few-of p) (p .answers .holds .equivalent)
 
     returns : BackOf (p .value) (p .list) m w₁ w₂ n
-    returns = back .is (p .value) (p .list) (tells-of p)
+    returns = back .is (p .value) (p .list) (few-of p) (p .answers .holds .equivalent)
 
     abbrev result : Answered
     result = record { rows = p .list; there = goes .bytes; back = returns .bytes }
@@ -164,11 +164,11 @@ module _ {book words widths : List ℕ} {k : ℕ} (a w : List ℕ) (p : Puts boo
 
 -- both parts are short
 pub lengths-fit : {book words widths : List ℕ} {k answer witness : ℕ} (p : Puts book words widths k answer witness) {w w₁ w₂ : List ℕ} {m n : ℕ} → ThereTold book words k w w₁ m → BackTold book words k m w₁ w₂ n → (m ≤ 24) × (n ≤ 96)
-lengths-fit p there back = (there .is (p .value) (p .list) (tells-of p) .few, back .is (p .value) (p .list) (tells-of p) .few)
+lengths-fit p there back = (there .is (p .value) (p .list) (few-of p) (p .answers .holds .equivalent) .few, back .is (p .value) (p .list) (few-of p) (p .answers .holds .equivalent) .few)
 
 -- there is room left behind the first part
 pub there-kept : {book words widths : List ℕ} {k answer : ℕ} (w : List ℕ) (p : Puts book words widths k answer (length w)) {w₁ : List ℕ} {m : ℕ} → ThereTold book words k w w₁ m → m + 96 ≤ length w₁
 there-kept w p {w₁} {m} there =
-    let t = there .is (p .value) (p .list) (tells-of p) in
+    let t = there .is (p .value) (p .list) (few-of p) (p .answers .holds .equivalent) in
     let few = t .few in
     omega (arith, witness-room (p .room), ap length (t .written), length-sets w 0 (t .bytes))

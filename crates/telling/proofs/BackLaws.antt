@@ -1,12 +1,14 @@
 -- The way back: the words of the uses placed on the question's.
 use mathlib.Core.Path.{_≡_, refl, sym, ap, ap₂, _∙_, subst}
+use mathlib.Core.Logic.{_↔_}
 use mathlib.Core.List.{List, [], _∷_, map}
 use Prim.Native.Nat.{ℕ, zero, suc, _+_, _*_, _<_, _≤_}
 use native.Mathlib.Omega.{arith}
 use lib.ListN.{length, getD, take, replicate, length-map}
 use lib.Seq.{sets, length-take-le}
 use Rattle.words.specs.Words.{Term, Subgoal}
-use Rattle.words.specs.Summaries.{Summaries, Own, uses, joined}
+use Rattle.words.specs.Summaries.{Summaries, Own, rewriting, uses, joined}
+use Rattle.words.specs.Answer.{Back}
 use Rattle.words.specs.Book.{Book, admittedOf}
 use Rattle.placing.specs.Task.{Task, posed, Sized}
 use Rattle.placing.specs.Mapped.{Mapped, FirstMapped, FirstPlaces}
@@ -15,11 +17,11 @@ use Rattle.ties.specs.Bounds.{Bounds, HeadBound}
 use Rattle.ties.specs.Tasks.{backTask}
 use Rattle.ties.proofs.Granted.{book-bounds}
 use Rattle.ties.proofs.InUse.{uses-few}
-use Rattle.ties.proofs.Back.{back-sized, back-first, back-some}
+use Rattle.ties.proofs.Back.{back-sized, back-is, back-first, back-some}
 use Rattle.writing.specs.Witness.{placeBytes, Placed}
 use Rattle.asking.specs.Question.{SomeSound, QuestionTarget, QuestionBound}
 use Rattle.asking.proofs.Lent.{targets-few, target-words}
-use Rattle.telling.specs.Told.{BackOf}
+use Rattle.telling.specs.Told.{Serves, BackOf}
 use Rattle.telling.specs.Steps.{FromOf, From}
 use Rattle.telling.proofs.Found.{FoundAt, found-at}
 
@@ -63,7 +65,7 @@ module _ {book source widths lasts : List ℕ} (b : Book) (l : List (Subgoal (Te
   few-targets : n ≤ 12
   few-targets = targets-few b (o .list .sound) target
 
-  own-long : length own ≡ n
+  pub own-long : length own ≡ n
   own-long = length-take-le n (replicate 12 0) few-targets
 
   owned : length own ≡ length (b .question .body)
@@ -78,9 +80,13 @@ module _ {book source widths lasts : List ℕ} (b : Book) (l : List (Subgoal (Te
   pub all-few : length widths ≤ 96
   all-few = let f = o .list .few in omega (arith, ap length (o .wide), length-map (joined ls) (λ g. length (g .terms)), uses-few (b .arities) s (b .question) bounds 0 l (o .list .within))
 
-  module _ {r : Places} (f : FirstPlaces lent bound r) where
+  -- places are a mapping's exactly if they are the witness's second part
+  pub back-mapped : (places : List ℕ) → Mapped lent bound places ↔ Back s (b .question) (rewriting (b .question) l) (map suc places)
+  back-mapped places = subst (λ t. Mapped t bound places ↔ Back s (b .question) (rewriting (b .question) l) (map suc places)) (sym task-is) (back-is (b .arities) s (b .question) bounds l (o .list .within) own bound owned head places)
+
+  module _ (serves : Serves b l) {r : Places} (f : FirstPlaces lent bound r) where
     back-found : FoundAt lent bound r
-    back-found = found-at f (subst (λ t. (m : List ℕ) × Mapped t bound m) (sym task-is) (back-some (b .arities) s (b .question) bounds l (o .list .within) own bound owned head .1 (o .list .equivalent .back)))
+    back-found = found-at f (subst (λ t. (m : List ℕ) × Mapped t bound m) (sym task-is) (back-some (b .arities) s (b .question) bounds l (o .list .within) own bound owned head .1 (serves .back)))
 
     pub back-placed : {out : List ℕ} {at : ℕ} → at + 96 ≤ length out → Placed out at (r .ks) (length widths)
     back-placed room = record {

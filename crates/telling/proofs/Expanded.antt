@@ -22,18 +22,18 @@ use Rattle.expanding.specs.Insides.{insides}
 use Rattle.expanding.specs.Promises.{Counted, AllWords, AllOwners, AllInsides, AllWidths, AllEnds}
 use Rattle.expanding.proofs.Read.{insides-long}
 use Rattle.asking.proofs.Lent.{front-again}
-use Rattle.telling.specs.Told.{Tells, TellsOf, ThereOf, ThereTold, BackOf, BackTold}
-use Rattle.telling.specs.Steps.{ListOf, OntoOf, Onto, OntoTold, FromOf, From, FromTold}
+use Rattle.telling.specs.Told.{FewOf, Few, Tells, ThereTold, BackTold}
+use Rattle.telling.specs.Steps.{ListOf, OntoOf, Onto, OntoServing, OntoTold, FromOf, From, FromServing, FromTold}
 
 module _ {book rows : List ℕ} {k : ℕ} where
-  pub rows-given : Tells book rows k → RowsGiven book rows k
+  pub rows-given : Few book rows k → RowsGiven book rows k
   rows-given t = record { value = t .value; list = t .list; is = t .is .rows-of }
 
-  list-of : {b : Book} {l : List (Subgoal (Term ℕ))} → TellsOf book rows k b l → ListOf book b l
-  list-of t = record { sound = t .rows-of .sound; within = t .rows-of .within; few = let f = t .few in omega (arith, t .rows-of .count); equivalent = t .equivalent }
+  list-of : {b : Book} {l : List (Subgoal (Term ℕ))} → FewOf book rows k b l → ListOf book b l
+  list-of t = record { sound = t .rows-of .sound; within = t .rows-of .within; few = let f = t .few in omega (arith, t .rows-of .count) }
 
   module _ {n : ℕ} (counted : Counted book rows k n) where
-    module _ (b : Book) (l : List (Subgoal (Term ℕ))) (t : TellsOf book rows k b l) where
+    module _ (b : Book) (l : List (Subgoal (Term ℕ))) (t : FewOf book rows k b l) where
       abbrev all : List (Subgoal (Term (Own ℕ)))
       all = joined (uses (admittedOf b) 0 l)
 
@@ -43,14 +43,14 @@ module _ {book rows : List ℕ} {k : ℕ} where
       few-uses : n ≤ 96
       few-uses = let f = t .few in omega (arith, many, t .rows-of .count, uses-few (b .arities) (admittedOf b) (b .question) (book-bounds b (t .rows-of .sound .value)) 0 l (t .rows-of .within))
 
-    pub few-goals : Tells book rows k → n ≤ 96
+    pub few-goals : Few book rows k → n ≤ 96
     few-goals t = few-uses (t .value) (t .list) (t .is)
 
     -- an area that has them at its front is as long as before
-    front-long : Tells book rows k → (before after front : List ℕ) → 96 ≤ length before → length front ≡ n → after ≡ atFront front before → length after ≡ length before
+    front-long : Few book rows k → (before after front : List ℕ) → 96 ≤ length before → length front ≡ n → after ≡ atFront front before → length after ≡ length before
     front-long t before after front wide f e = ap length e ∙ front-length front before (omega (arith, few-goals t))
 
-    module _ (t : Tells book rows k) {before after : List ℕ} where
+    module _ (t : Few book rows k) {before after : List ℕ} where
       pub words-long : {code : Term (Own ℕ) → ℕ} → 864 ≤ length before → AllWords book rows k code before after → length after ≡ length before
       words-long {code} wide e = ap length (e .is (t .value) (t .list) (t .is .rows-of)) ∙ front-length (wordsOf code (all (t .value) (t .list) (t .is))) before (omega (arith, words-length code (all (t .value) (t .list) (t .is)), many (t .value) (t .list) (t .is), few-goals t))
 
@@ -68,7 +68,7 @@ module _ {book rows : List ℕ} {k : ℕ} where
 
     -- as targets
     module _ {o₀ o w₀ w i₀ i : List ℕ} (words : AllWords book rows k ownCode w₀ w) (owns : AllOwners book rows k o₀ o) (inners : AllInsides book rows k i₀ i) where
-      onto-of : (b : Book) (l : List (Subgoal (Term ℕ))) → TellsOf book rows k b l → OntoOf book (take (9 * n) w) (take n o) (take n i) b l
+      pub onto-of : (b : Book) (l : List (Subgoal (Term ℕ))) → FewOf book rows k b l → OntoOf book (take (9 * n) w) (take n o) (take n i) b l
       onto-of b l t = record {
         list = list-of t;
         words = front-again (wordsOf ownCode (all b l t)) w₀ w (9 * n) (words .is b l (t .rows-of)) (omega (arith, words-length ownCode (all b l t), many b l t));
@@ -76,15 +76,19 @@ module _ {book rows : List ℕ} {k : ℕ} where
         inners = front-again (insides (uses (admittedOf b) 0 l)) i₀ i n (inners .is b l (t .rows-of)) (insides-long (uses (admittedOf b) 0 l) ∙ sym (many b l t));
       }
 
-      pub onto : Tells book rows k → Onto book (take (9 * n) w) (take n o) (take n i)
+      pub onto : Few book rows k → Onto book (take (9 * n) w) (take n o) (take n i)
       onto t = record { value = t .value; list = t .list; is = onto-of (t .value) (t .list) (t .is) }
 
+      pub onto-serving : Tells book rows k → OntoServing book (take (9 * n) w) (take n o) (take n i)
+      unfolding onto
+      onto-serving t = record { onto = onto (t .some); serves = t .serves }
+
       pub there-told : {out out′ : List ℕ} {m : ℕ} → OntoTold book (take (9 * n) w) (take n o) (take n i) out out′ m → ThereTold book rows k out out′ m
-      there-told e = record { is = λ b l t. e .is b l (onto-of b l t) }
+      there-told e = record { is = λ b l t serves. e .is b l (onto-of b l t) serves }
 
     -- as sources
     module _ {w₀ w d₀ d e₀ e : List ℕ} (words : AllWords book rows k ownSlot w₀ w) (wide : AllWidths book rows k d₀ d) (ends : AllEnds book rows k e₀ e) where
-      from-of : (b : Book) (l : List (Subgoal (Term ℕ))) → TellsOf book rows k b l → FromOf book (take (9 * n) w) (take n d) (take n e) b l
+      pub from-of : (b : Book) (l : List (Subgoal (Term ℕ))) → FewOf book rows k b l → FromOf book (take (9 * n) w) (take n d) (take n e) b l
       from-of b l t = record {
         list = list-of t;
         words = front-again (wordsOf ownSlot (all b l t)) w₀ w (9 * n) (words .is b l (t .rows-of)) (omega (arith, words-length ownSlot (all b l t), many b l t));
@@ -92,8 +96,12 @@ module _ {book rows : List ℕ} {k : ℕ} where
         ends = front-again (endsOf (uses (admittedOf b) 0 l)) e₀ e n (ends .is b l (t .rows-of)) (ends-long (uses (admittedOf b) 0 l) ∙ sym (many b l t));
       }
 
-      pub from : Tells book rows k → From book (take (9 * n) w) (take n d) (take n e)
+      pub from : Few book rows k → From book (take (9 * n) w) (take n d) (take n e)
       from t = record { value = t .value; list = t .list; is = from-of (t .value) (t .list) (t .is) }
 
+      pub from-serving : Tells book rows k → FromServing book (take (9 * n) w) (take n d) (take n e)
+      unfolding from
+      from-serving t = record { from = from (t .some); serves = t .serves }
+
       pub back-told : {at : ℕ} {out out′ : List ℕ} {m : ℕ} → FromTold book (take (9 * n) w) (take n d) (take n e) at out out′ m → BackTold book rows k at out out′ m
-      back-told f = record { is = λ b l t. f .is b l (from-of b l t) }
+      back-told f = record { is = λ b l t serves. f .is b l (from-of b l t) serves }

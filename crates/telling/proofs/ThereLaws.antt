@@ -1,6 +1,7 @@
 -- The way there: the question's words placed on those of the uses.
 use mathlib.Core.Path.{_≡_, refl, sym, ap, ap₂, _∙_, subst}
 use mathlib.Core.Bool.{Bool, true, false, cond}
+use mathlib.Core.Logic.{_↔_}
 use mathlib.Core.List.{List, [], _∷_}
 use Prim.Native.Nat.{ℕ, zero, suc, _+_, _*_, _-_, _<_, _≤_}
 use native.Mathlib.Omega.{arith}
@@ -9,7 +10,8 @@ use lib.Dec.{ltb}
 use lib.ListN.{length, getD, take, replicate, length-map, List·getD-eq-default}
 use lib.Seq.{sets, length-take-le}
 use Rattle.words.specs.Words.{Term, Subgoal}
-use Rattle.words.specs.Summaries.{Summaries, Own, uses, joined}
+use Rattle.words.specs.Summaries.{Summaries, Own, rewriting, uses, joined}
+use Rattle.words.specs.Answer.{There}
 use Rattle.words.specs.Book.{Book, admittedOf}
 use Rattle.placing.specs.Task.{Task, posed, Sized}
 use Rattle.placing.specs.Mapped.{Mapped, FirstMapped, FirstPlaces}
@@ -22,14 +24,14 @@ use Rattle.ties.proofs.Granted.{book-bounds}
 use Rattle.ties.proofs.Owners.{owners-long, owners-at, owners-below}
 use Rattle.ties.proofs.InUse.{uses-few}
 use Rattle.ties.proofs.Into.{there-sized}
-use Rattle.ties.proofs.There.{there-first, there-some}
+use Rattle.ties.proofs.There.{there-is, there-first, there-some}
 use Rattle.writing.specs.Witness.{pairBytes, Paired}
 use Rattle.expanding.specs.Insides.{insides}
 use Rattle.expanding.proofs.Read.{insides-long, insides-at}
 use Rattle.asking.specs.Question.{SomeSound, QuestionSource, QuestionBound}
 use Rattle.asking.proofs.Lent.{goals-few, source-words, source-widths}
-use Rattle.telling.specs.Told.{ThereOf}
-use Rattle.telling.specs.Steps.{OntoOf, Onto, OntoTold}
+use Rattle.telling.specs.Told.{Serves, ThereOf}
+use Rattle.telling.specs.Steps.{OntoOf, Onto}
 use Rattle.telling.proofs.Found.{FoundAt, found-at}
 
 -- the pairs of places are the bytes that are written for them
@@ -47,7 +49,7 @@ pairs-written ls ks own inner (k ∷ l) i at named =
     let rest = pairs-written ls ks own inner l (suc i) at (λ j h. let w = named (suc j) (omega arith) in let e : suc i + j ≡ i + suc j = omega arith in (ap (λ n. getD ks n 0) e ∙ w .0, w .1)) in
     ap₂ (λ x y. x ∷ y ∷ pairBytes ks own inner (suc i) (length l)) o p ∙ ap (λ m. suc (useAt ls k) ∷ suc (withinAt ls k) ∷ m) rest
 
-pairs-long : {A : Type 0} (ls : List (List A)) (l : List ℕ) → length (pairsOf ls l) ≡ 2 * length l
+pub pairs-long : {A : Type 0} (ls : List (List A)) (l : List ℕ) → length (pairsOf ls l) ≡ 2 * length l
 pairs-long ls [] = refl
 pairs-long ls (k ∷ l) = omega (arith, pairs-long ls l)
 
@@ -104,9 +106,13 @@ module _ {book target own inner : List ℕ} (b : Book) (l : List (Subgoal (Term 
   abbrev head : HeadBound (b .question .head) bound
   head = heads .is b (o .list .sound)
 
-  module _ {r : Places} (f : FirstPlaces lent bound r) where
+  -- places are a mapping's exactly if their pairs are the witness's first part
+  pub there-mapped : (places : List ℕ) → Mapped lent bound places ↔ There s (b .question) (rewriting (b .question) l) (pairsOf ls places)
+  there-mapped places = subst (λ t. Mapped t bound places ↔ There s (b .question) (rewriting (b .question) l) (pairsOf ls places)) (sym task-is) (there-is (b .arities) s (b .question) bounds l (o .list .within) lasts own bound owned head places)
+
+  module _ (serves : Serves b l) {r : Places} (f : FirstPlaces lent bound r) where
     pub there-found : FoundAt lent bound r
-    there-found = found-at f (subst (λ t. (m : List ℕ) × Mapped t bound m) (sym task-is) (there-some (b .arities) s (b .question) bounds l (o .list .within) lasts own bound owned head .1 (o .list .equivalent .there)))
+    there-found = found-at f (subst (λ t. (m : List ℕ) × Mapped t bound m) (sym task-is) (there-some (b .arities) s (b .question) bounds l (o .list .within) lasts own bound owned head .1 (serves .there)))
 
     goals-are : length (take n new) ≡ n
     goals-are = ap length (source-widths b (o .list .sound) source) ∙ length-map (b .question .body) _ ∙ sym (source .count b (o .list .sound))

@@ -11,14 +11,14 @@ use Rattle.telling.specs.Told.{Tells, ThereTold, BackTold}
 module _ {book rows : List ℕ} {k : ℕ} (w : Tells book rows k) where
   pub there-once : {before after other : List ℕ} {n m : ℕ} → ThereTold book rows k before after n → ThereTold book rows k before other m → (n ≡ m) × (after ≡ other)
   there-once {before} s t =
-      let a = s .is (w .value) (w .list) (w .is) in
-      let b = t .is (w .value) (w .list) (w .is) in
+      let a = s .is (w .some .value) (w .some .list) (w .some .is) (w .serves) in
+      let b = t .is (w .some .value) (w .some .list) (w .some .is) (w .serves) in
       let e = first-unique bytesOrder (a .bytes) (b .bytes) (a .first) (b .first) in
       (a .long ∙ ap length e ∙ sym (b .long), a .written ∙ ap (sets before 0) e ∙ sym (b .written))
 
   pub back-once : {at : ℕ} {before after other : List ℕ} {n m : ℕ} → BackTold book rows k at before after n → BackTold book rows k at before other m → (n ≡ m) × (after ≡ other)
   back-once {at} {before} s t =
-      let a = s .is (w .value) (w .list) (w .is) in
-      let b = t .is (w .value) (w .list) (w .is) in
+      let a = s .is (w .some .value) (w .some .list) (w .some .is) (w .serves) in
+      let b = t .is (w .some .value) (w .some .list) (w .some .is) (w .serves) in
       let e = first-unique bytesOrder (a .bytes) (b .bytes) (a .first) (b .first) in
       (a .long ∙ ap length e ∙ sym (b .long), a .written ∙ ap (sets before at) e ∙ sym (b .written))

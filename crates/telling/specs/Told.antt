@@ -10,16 +10,23 @@ use Rattle.words.specs.Answer.{FirstThere, FirstBack}
 use Rattle.words.specs.Book.{Book, admittedOf}
 use Rattle.expanding.specs.Given.{RowsOf}
 
--- So many rows of a sound book, and they are equivalent to its question.
-pub record TellsOf (book rows : List ℕ) (k : ℕ) (b : Book) (l : List (Subgoal (Term ℕ))) : Type 0 where
+-- As many rows of a sound book as a rewriting may have.
+pub record FewOf (book rows : List ℕ) (k : ℕ) (b : Book) (l : List (Subgoal (Term ℕ))) : Type 0 where
   pub rows-of : RowsOf book rows k b l
   pub few : k ≤ 12
-  pub equivalent : Equivalent (admittedOf b) (b .question) (rewriting (b .question) l)
 
-pub record Tells (book rows : List ℕ) (k : ℕ) : Type 0 where
+pub record Few (book rows : List ℕ) (k : ℕ) : Type 0 where
   pub value : Book
   pub list : List (Subgoal (Term ℕ))
-  pub is : TellsOf book rows k value list
+  pub is : FewOf book rows k value list
+
+-- The list is equivalent to the book's question.
+abbrev pub Serves : Book → List (Subgoal (Term ℕ)) → Type 0
+Serves b l = Equivalent (admittedOf b) (b .question) (rewriting (b .question) l)
+
+pub record Tells (book rows : List ℕ) (k : ℕ) : Type 0 where
+  pub some : Few book rows k
+  pub serves : Serves (some .value) (some .list)
 
 -- The first part, at the front of an area; the bytes behind it stay.
 pub record ThereOf (b : Book) (l : List (Subgoal (Term ℕ))) (before after : List ℕ) (n : ℕ) : Type 0 where
@@ -30,7 +37,7 @@ pub record ThereOf (b : Book) (l : List (Subgoal (Term ℕ))) (before after : Li
   pub written : after ≡ sets before 0 bytes
 
 pub record ThereTold (book rows : List ℕ) (k : ℕ) (before after : List ℕ) (n : ℕ) : Type 0 where
-  pub is : (b : Book) (l : List (Subgoal (Term ℕ))) → TellsOf book rows k b l → ThereOf b l before after n
+  pub is : (b : Book) (l : List (Subgoal (Term ℕ))) → FewOf book rows k b l → Serves b l → ThereOf b l before after n
 
 -- The second part, from `at` on.
 pub record BackOf (b : Book) (l : List (Subgoal (Term ℕ))) (at : ℕ) (before after : List ℕ) (n : ℕ) : Type 0 where
@@ -41,4 +48,4 @@ pub record BackOf (b : Book) (l : List (Subgoal (Term ℕ))) (at : ℕ) (before 
   pub written : after ≡ sets before at bytes
 
 pub record BackTold (book rows : List ℕ) (k at : ℕ) (before after : List ℕ) (n : ℕ) : Type 0 where
-  pub is : (b : Book) (l : List (Subgoal (Term ℕ))) → TellsOf book rows k b l → BackOf b l at before after n
+  pub is : (b : Book) (l : List (Subgoal (Term ℕ))) → FewOf book rows k b l → Serves b l → BackOf b l at before after n

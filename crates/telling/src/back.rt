@@ -2,7 +2,7 @@
 ghost use Prim.Native.Nat.{_+_, _≤_};
 ghost use lib.ListN.{length};
 ghost use Rattle.telling.specs.Told.{Tells, BackTold};
-ghost use Rattle.telling.specs.Steps.{From, FromTold};
+ghost use Rattle.telling.specs.Steps.{FromServing, FromTold};
 use asking::question_bindings;
 use asking::question_target;
 use expanding::all::expand_back;
@@ -18,7 +18,7 @@ fn back_from(
     out: &mut [u8],
     at: usize,
 ) -> usize
-    requires { ⌜ From (now book) (now source) (now widths) (now lasts) × (at + 96 ≤ length (now out)) ⌝ }
+    requires { ⌜ FromServing (now book) (now source) (now widths) (now lasts) × (at + 96 ≤ length (now out)) ⌝ }
     ensures { λ r. ⌜ FromTold (now (book .entry)) (now (source .entry)) (now (widths .entry)) (now (lasts .entry)) at (now (out .entry)) (now (out .exit)) r ⌝ }
 {
     let mut target = [0u64; 108];

@@ -2,7 +2,7 @@
 ghost use Prim.Native.Nat.{_≤_};
 ghost use lib.ListN.{length};
 ghost use Rattle.telling.specs.Told.{Tells, ThereTold};
-ghost use Rattle.telling.specs.Steps.{Onto, OntoTold};
+ghost use Rattle.telling.specs.Steps.{OntoServing, OntoTold};
 use asking::question_bindings;
 use asking::question_source;
 use expanding::all::expand;
@@ -11,7 +11,7 @@ use writing::witness::put_pairs;
 
 // The question's subgoals placed on the uses' subgoals.
 fn there_onto(book: &[u8], target: &[u64], own: &[u8], inner: &[u8], out: &mut [u8]) -> usize
-    requires { ⌜ Onto (now book) (now target) (now own) (now inner) × (24 ≤ length (now out)) ⌝ }
+    requires { ⌜ OntoServing (now book) (now target) (now own) (now inner) × (24 ≤ length (now out)) ⌝ }
     ensures { λ r. ⌜ OntoTold (now (book .entry)) (now (target .entry)) (now (own .entry)) (now (inner .entry)) (now (out .entry)) (now (out .exit)) r ⌝ }
 {
     let mut source = [0u64; 108];

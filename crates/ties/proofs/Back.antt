@@ -42,7 +42,7 @@ use Rattle.ties.proofs.InUse.{OfUse, use-terms, use-some, uses-fit, use
 use Rattle.ties.proofs.Into.{uses-within}
 
 -- places counted from 1 are places counted from 0, one more; in the same order
-places-from : {A : Type 0} (all : List A) (bytes : List ℕ) (gs : List A) → AtPlaces all bytes gs → (l : List ℕ) × (map suc l ≡ bytes)
+pub places-from : {A : Type 0} (all : List A) (bytes : List ℕ) (gs : List A) → AtPlaces all bytes gs → (l : List ℕ) × (map suc l ≡ bytes)
 places-from all [] [] h = ([], refl)
 places-from all [] (g ∷ gs) h = absurd h
 places-from all (n ∷ ns) [] h = absurd h

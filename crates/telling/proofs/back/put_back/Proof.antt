@@ -1,7 +1,7 @@
 use mathlib.Core.Path.{sym}
 use native.Mathlib.Omega.{arith}
 use lib.Seq.{length-take-le}
-use Rattle.telling.proofs.Expanded.{rows-given, few-goals, words-long, widths-kept, ends-kept, from, back-told}
+use Rattle.telling.proofs.Expanded.{rows-given, few-goals, words-long, widths-kept, ends-kept, from-serving, back-told}
 use borrow.Author.Needs.{needs}
 use Rattle.telling.proofs.back.put_back.Statement.{statement}
 use Rattle.telling.proofs.back.put_back.Tie as tie
@@ -9,55 +9,55 @@ use Rattle.telling.proofs.back.put_back.Tie as tie
 expand-back-requires : tie.Need-expand-back-requires
 expand-back-requires c κs =
     let w = c .before .before .before .before .before .before .pre in
-    (rows-given (w .0), w .0 .is .few, (let f = w .0 .is .few in omega arith), (let f = w .0 .is .few in omega arith), (let f = w .0 .is .few in omega arith))
+    (rows-given (w .0 .some), w .0 .some .is .few, (let f = w .0 .some .is .few in omega arith), (let f = w .0 .some .is .few in omega arith), (let f = w .0 .some .is .few in omega arith))
 
 mul-source : tie.Need-mul-source
 mul-source c =
     let expand-back = c .before .before .before .expand-back in
     let w = c .before .before .before .before .before .before .before .before .before .before .pre in
-    omega (arith, few-goals (expand-back .ensures .0) (w .0))
+    omega (arith, few-goals (expand-back .ensures .0) (w .0 .some))
 
 array-share-prefix-source : tie.Need-array-share-prefix-source
 array-share-prefix-source c =
     let expand-back = c .before .before .before .expand-back in
     let w = c .before .before .before .before .before .before .before .before .before .before .pre in
-    let n = few-goals (expand-back .ensures .0) (w .0) in omega (arith, words-long (expand-back .ensures .0) (w .0) (omega arith) (expand-back .ensures .1))
+    let n = few-goals (expand-back .ensures .0) (w .0 .some) in omega (arith, words-long (expand-back .ensures .0) (w .0 .some) (omega arith) (expand-back .ensures .1))
 
 slice-aggregate-back-from : tie.Need-slice-aggregate-back-from
 slice-aggregate-back-from c =
     let expand-back = c .before .before .before .before .expand-back in
     let w = c .before .before .before .before .before .before .before .before .before .before .before .pre in
-    let n = few-goals (expand-back .ensures .0) (w .0) in sym (length-take-le _ _ (omega (arith, words-long (expand-back .ensures .0) (w .0) (omega arith) (expand-back .ensures .1))))
+    let n = few-goals (expand-back .ensures .0) (w .0 .some) in sym (length-take-le _ _ (omega (arith, words-long (expand-back .ensures .0) (w .0 .some) (omega arith) (expand-back .ensures .1))))
 
 array-share-prefix-widths : tie.Need-array-share-prefix-widths
 array-share-prefix-widths c =
     let expand-back = c .before .before .before .before .expand-back in
     let w = c .before .before .before .before .before .before .before .before .before .before .before .pre in
-    let n = few-goals (expand-back .ensures .0) (w .0) in omega (arith, widths-kept (expand-back .ensures .0) (w .0) (omega arith) (expand-back .ensures .2))
+    let n = few-goals (expand-back .ensures .0) (w .0 .some) in omega (arith, widths-kept (expand-back .ensures .0) (w .0 .some) (omega arith) (expand-back .ensures .2))
 
 slice-aggregate-back-from-2 : tie.Need-slice-aggregate-back-from-2
 slice-aggregate-back-from-2 c =
     let expand-back = c .before .before .before .before .before .expand-back in
     let w = c .before .before .before .before .before .before .before .before .before .before .before .before .pre in
-    let n = few-goals (expand-back .ensures .0) (w .0) in sym (length-take-le _ _ (omega (arith, widths-kept (expand-back .ensures .0) (w .0) (omega arith) (expand-back .ensures .2))))
+    let n = few-goals (expand-back .ensures .0) (w .0 .some) in sym (length-take-le _ _ (omega (arith, widths-kept (expand-back .ensures .0) (w .0 .some) (omega arith) (expand-back .ensures .2))))
 
 array-share-prefix-lasts : tie.Need-array-share-prefix-lasts
 array-share-prefix-lasts c =
     let expand-back = c .before .before .before .before .before .expand-back in
     let w = c .before .before .before .before .before .before .before .before .before .before .before .before .pre in
-    let n = few-goals (expand-back .ensures .0) (w .0) in omega (arith, ends-kept (expand-back .ensures .0) (w .0) (omega arith) (expand-back .ensures .3))
+    let n = few-goals (expand-back .ensures .0) (w .0 .some) in omega (arith, ends-kept (expand-back .ensures .0) (w .0 .some) (omega arith) (expand-back .ensures .3))
 
 slice-aggregate-back-from-3 : tie.Need-slice-aggregate-back-from-3
 slice-aggregate-back-from-3 c =
     let expand-back = c .before .before .before .before .before .before .expand-back in
     let w = c .before .before .before .before .before .before .before .before .before .before .before .before .before .pre in
-    let n = few-goals (expand-back .ensures .0) (w .0) in sym (length-take-le _ _ (omega (arith, ends-kept (expand-back .ensures .0) (w .0) (omega arith) (expand-back .ensures .3))))
+    let n = few-goals (expand-back .ensures .0) (w .0 .some) in sym (length-take-le _ _ (omega (arith, ends-kept (expand-back .ensures .0) (w .0 .some) (omega arith) (expand-back .ensures .3))))
 
 back-from-requires : tie.Need-back-from-requires
 back-from-requires c κs =
     let expand-back = c .before .before .before .before .before .before .before .expand-back in
     let w = c .before .before .before .before .before .before .before .before .before .before .before .before .before .before .pre in
-    (from (expand-back .ensures .0) (expand-back .ensures .1) (expand-back .ensures .2) (expand-back .ensures .3) (w .0), w .1)
+    (from-serving (expand-back .ensures .0) (expand-back .ensures .1) (expand-back .ensures .2) (expand-back .ensures .3) (w .0), w .1)
 
 returns : tie.Need-returns
 returns c =

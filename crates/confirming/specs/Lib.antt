@@ -1,0 +1,3 @@
+pub mod Places
+pub mod Confirms
+pub mod Steps
