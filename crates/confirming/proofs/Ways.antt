@@ -89,7 +89,7 @@ module _ {book target own begins : List ℕ} {k : ℕ} (b : Book) (l : List (Sub
     pointed i h =
         let less : i < n = omega (arith, taken) in
         subst (λ m. PlaceOf begins m (getD witness (2 * i) 0) (getD witness (2 * i + 1) 0) (getD (take n ks) i 0)) (sym count)
-            (subst (PlaceOf begins k (getD witness (2 * i) 0) (getD witness (2 * i + 1) 0)) (sym (getD-take n ks i 0 less)) (p .at i less))
+        (subst (PlaceOf begins k (getD witness (2 * i) 0) (getD witness (2 * i + 1) 0)) (sym (getD-take n ks i 0 less)) (p .at i less))
 
     exactly : (r ≡ true) ↔ Maps (take n ks)
     exactly = subst (λ m. (r ≡ true) ↔ Maps (take m ks)) goals-are (f .exactly)

@@ -77,7 +77,15 @@ fn there_along(
     let lasts = [0u8; 12];
     let b = question_bindings(book);
     let ks = pair_places(witness, starts, k, n);
-    follows(&source[..9 * n], &widths[..n], &lasts[..n], target, own, b, &ks)
+    follows(
+        &source[..9 * n],
+        &widths[..n],
+        &lasts[..n],
+        target,
+        own,
+        b,
+        &ks,
+    )
 }
 
 // Whether the bytes are the first part of a witness of k rows.
