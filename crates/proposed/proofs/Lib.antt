@@ -1,0 +1,5 @@
+pub mod LengthLaws
+pub mod HeadLaws
+pub mod AdmissionLaws
+pub mod RowLaws
+pub mod Unique
