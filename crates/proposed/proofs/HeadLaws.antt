@@ -1,7 +1,6 @@
 -- Two rules have one head exactly if the words of their heads are the same.
 use mathlib.Core.Path.{_≡_, refl, sym, ap, ap₂, _∙_}
-use mathlib.Core.Bool.{Bool, true, false}
-use mathlib.Core.Logic.{_↔_}
+use mathlib.Core.Bool.{true, false}
 use mathlib.Core.List.{List, [], _∷_, map, List·Memᴰ·head, List·Memᴰ·tail}
 use Prim.Native.Nat.{ℕ, zero, suc, _<_, _≤_}
 use native.Mathlib.Omega.{arith}
@@ -15,6 +14,7 @@ use Rattle.ties.proofs.Read.{read-term}
 use Rattle.wording.proofs.WordLaws.{padded-length}
 use Rattle.builders.specs.Heads.{HeadWords}
 use Rattle.proposed.specs.Tests.{SameHeads}
+use Rattle.proposed.proofs.Says.{says-yes, says-no}
 
 -- a word says which term it is, and is not that of an end
 code-once : (t u : Term ℕ) → TermWithin t → TermWithin u → termCode t ≡ termCode u → t ≡ u
@@ -37,7 +37,7 @@ padded-once (suc n) (t ∷ ts) (u ∷ us) l m h k e = ap₂ _∷_
 module _ {a b x y : List ℕ} (left : HeadWords a x) (right : HeadWords b y) where
   -- the words are all the same
   pub heads-same : ((k : ℕ) → k < 8 → getD x k 0 ≡ getD y k 0) → SameHeads a b true
-  heads-same all = record { exactly = λ arities most p l known few q o. ((λ t. once arities most p l known few q o), λ e. refl) }
+  heads-same all = record { exactly = λ arities most p l known few q o. says-yes (once arities most p l known few q o) }
     where
       once : (arities : List ℕ) (most : ℕ) (p : Rule ℕ) → Layout arities most a p → (known : List ℕ) (few : ℕ) (q : Rule ℕ) → Layout known few b q → p .head ≡ q .head
       once arities most p l known few q o =
@@ -49,8 +49,5 @@ module _ {a b x y : List ℕ} (left : HeadWords a x) (right : HeadWords b y) whe
   -- one of them differs
   pub heads-differ : (k : ℕ) → (getD x k 0 ≡ getD y k 0 → ⊥) → SameHeads a b false
   heads-differ k d = record {
-    exactly = λ arities most p l known few q o. (
-      (λ t. let z : _≡_ {A = ℕ} 0 1 = cc in absurd (omega arith)),
-      λ e. absurd (d (ap (λ w. getD w k 0) (left .is arities most p l ∙ ap (λ ts. padded 8 (map termCode ts)) e ∙ sym (right .is known few q o)))),
-    );
+    exactly = λ arities most p l known few q o. says-no (λ e. d (ap (λ w. getD w k 0) (left .is arities most p l ∙ ap (λ ts. padded 8 (map termCode ts)) e ∙ sym (right .is known few q o))));
   }

@@ -1,3 +1,4 @@
+pub mod Says
 pub mod LengthLaws
 pub mod HeadLaws
 pub mod AdmissionLaws

@@ -3,18 +3,17 @@ use mathlib.Core.Path.{_≡_, refl, sym, ap, _∙_, subst}
 use mathlib.Core.Bool.{Bool, true, false}
 use mathlib.Core.Logic.{_↔_}
 use mathlib.Core.Option.{some}
-use mathlib.Core.List.{List, _++_}
+use mathlib.Core.List.{List}
 use Prim.Native.Nat.{ℕ, _*_, _<_, _≤_}
 use native.Mathlib.Omega.{arith}
 use lib.ListN.{length, getD, drop, List·getD-append}
-use Rattle.words.specs.Words.{_∈_, Term, Subgoal, Rule}
+use Rattle.words.specs.Words.{Rule}
 use Rattle.words.specs.Summaries.{summary, OverAll}
 use Rattle.words.specs.Book.{Book, admittedOf}
 use Rattle.layout.specs.RuleLayout.{ruleBytes, Layout}
 use Rattle.layout.specs.BookLayout.{SoundBook, questionMost}
 use Rattle.layout.specs.Contents.{partAt}
 use Rattle.layout.proofs.RuleLaws.{layout-unique}
-use Rattle.layout.proofs.BookUnique.{book-unique}
 use Rattle.layout.proofs.BookPasses.{question-reads}
 use Rattle.layout.proofs.Places.{place-of, getD-in}
 use Rattle.frame.specs.Numbered.{nothing}
@@ -29,14 +28,11 @@ use Rattle.wording.specs.Promises.{BodyWords}
 use Rattle.wording.proofs.Stores.{front-length}
 use Rattle.asking.specs.Question.{SomeSound}
 use Rattle.truth.specs.Truth.{RewritingRule}
-use Rattle.truth.specs.HeadLengths.{headLengths}
 use Rattle.truth.proofs.AsRule.{width-is, laid-out}
 use Rattle.proposed.specs.Lengths.{HeadsAre}
-use Rattle.proposed.specs.Tests.{Admitted, LaidOut, SameHeads, AdmitsAll}
-use Rattle.proposed.specs.Proposed.{empty, noRows, NotProposed, RowsOf, Proposed, Given}
-
-no : {P : Type 0} → false ≡ true → P
-no e = absurd (let z : _≡_ {A = ℕ} 0 1 = cc in omega arith)
+use Rattle.proposed.specs.Tests.{LaidOut, SameHeads, AdmitsAll}
+use Rattle.proposed.specs.Proposed.{empty, noRows, Proposed, Given}
+use Rattle.proposed.proofs.Says.{says-both, says-yes, says-no}
 
 -- what the verdict says of the layout alone: every rule that is not broken has it
 abbrev pub ruled : Verdict → Bool
@@ -49,13 +45,10 @@ pub laid-by : (lengths rewriting : List ℕ) (v w : Verdict) → Judged lengths 
 laid-by lengths rewriting v w j e = go w (subst (Judged lengths questionMost false rewriting) e j)
   where
     go : (w : Verdict) → Judged lengths questionMost false rewriting w → LaidOut lengths rewriting (ruled w)
-    go Sound x = record { exactly = ((λ t. (x .rule, x .layout)), λ o. refl) }
-    go (Broken f) x = record { exactly = (no, λ o. absurd (x .none (o .0) (o .1))) }
-    go Unsafe x = record { exactly = ((λ t. (x .rule, x .layout)), λ o. refl) }
-    go Repeats x = record { exactly = ((λ t. (x .rule, x .layout)), λ o. refl) }
-
-clash : {r : Bool} → r ≡ true → r ≡ false → ⊥
-clash t f = let z : _≡_ {A = ℕ} 0 1 = cc in omega arith
+    go Sound x = record { exactly = says-yes (x .rule, x .layout) }
+    go (Broken f) x = record { exactly = says-no (λ o. x .none (o .0) (o .1)) }
+    go Unsafe x = record { exactly = says-yes (x .rule, x .layout) }
+    go Repeats x = record { exactly = says-yes (x .rule, x .layout) }
 
 -- nothing is proposed, for whatever reason
 pub proposed-none : {book rewriting : List ℕ} → ((b : Book) → SoundBook book b → (rule : Rule ℕ) → RewritingRule b rule → ruleBytes rule ≡ rewriting → ⊥) → Proposed book rewriting noRows
@@ -70,14 +63,14 @@ module _ {book rewriting lengths : List ℕ} (heads : HeadsAre book lengths) whe
   over-lengths b s rule is written = rw (heads .is b s, sym written) (laid-out b s rule is)
 
   pub none-laid : {r : Bool} → LaidOut lengths rewriting r → r ≡ false → Proposed book rewriting noRows
-  none-laid l f = proposed-none (λ b s rule is written. clash (l .exactly .1 (rule, over-lengths b s rule is written)) f)
+  none-laid l f = proposed-none (λ b s rule is written. says-both (l .exactly .1 (rule, over-lengths b s rule is written)) f)
 
   module _ {part : List ℕ} (second : part ≡ partAt book 1) {q : Bool} (h : SameHeads rewriting part q) where
     same-head : (b : Book) → SoundBook book b → (rule : Rule ℕ) → Layout lengths questionMost rewriting rule → (q ≡ true) ↔ (rule .head ≡ b .question .head)
     same-head b s rule l = h .exactly lengths questionMost rule l (partAt book 0) questionMost (b .question) (rw second (question-reads s))
 
     pub none-headed : q ≡ false → Proposed book rewriting noRows
-    none-headed f = proposed-none (λ b s rule is written. clash (same-head b s rule (over-lengths b s rule is written) .1 (is .head)) f)
+    none-headed f = proposed-none (λ b s rule is written. says-both (same-head b s rule (over-lengths b s rule is written) .1 (is .head)) f)
 
     pub rows-given : SomeSound book → {r : Bool} → LaidOut lengths rewriting r → r ≡ true → q ≡ true → Given book rewriting lengths
     rows-given w l t u = let o = l .exactly .0 t in record { sound = w; heads = heads; rule = o .0; layout = o .1; same = λ b s. same-head b s (o .0) (o .1) .0 u }
@@ -140,4 +133,4 @@ module _ {book rewriting lengths : List ℕ} (g : Given book rewriting lengths) 
           never b s rule is written =
               let same : g .rule ≡ rule = layout-unique lengths questionMost rewriting (g .rule) rule (g .layout) (over-lengths (g .heads) b s rule is written) in
               let over : OverAll (admittedOf b) (g .rule) = subst (OverAll (admittedOf b)) (sym same) (is .over) in
-              clash (says .exactly b s .1 (λ k h. let l : k < length (g .rule .body) = omega (arith, count-is) in let o = over (getD (g .rule .body) k nothing) (getD-in (g .rule .body) k nothing l) in (o .rule, rw (number-at k l) (o .admitted)))) f
+              says-both (says .exactly b s .1 (λ k h. let l : k < length (g .rule .body) = omega (arith, count-is) in let o = over (getD (g .rule .body) k nothing) (getD-in (g .rule .body) k nothing l) in (o .rule, rw (number-at k l) (o .admitted)))) f

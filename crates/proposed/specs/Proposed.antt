@@ -28,7 +28,7 @@ module _ (b : Book) (rewriting : List ℕ) (r : Proposal) where
     pub words : r .words ≡ empty
 
   -- They are such a rule: its rows, as words, stand at the front, and zeros behind them.
-  pub record RowsOf : Type 0 where
+  pub record IsProposed : Type 0 where
     pub rule : Rule ℕ
     pub is : RewritingRule b rule
     pub written : ruleBytes rule ≡ rewriting
@@ -37,7 +37,7 @@ module _ (b : Book) (rewriting : List ℕ) (r : Proposal) where
 
 pub record Proposed (book rewriting : List ℕ) (r : Proposal) : Type 0 where
   pub none : (b : Book) → SoundBook book b → r .count ≡ 0 → NotProposed b rewriting r
-  pub some : (b : Book) → SoundBook book b → 1 ≤ r .count → RowsOf b rewriting r
+  pub some : (b : Book) → SoundBook book b → 1 ≤ r .count → IsProposed b rewriting r
 
 -- A sound book, and the bytes of a rule that has its question's head, laid out over the lengths of its summaries' heads.
 pub record Given (book rewriting lengths : List ℕ) : Type 0 where

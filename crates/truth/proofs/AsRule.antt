@@ -11,7 +11,7 @@ use Rattle.words.specs.Summaries.{summary}
 use Rattle.words.specs.Refresh.{admitted}
 use Rattle.words.specs.Book.{Summary, Book, ifTrue, admittedOf}
 use Rattle.theory.specs.Sound.{ruleOf}
-use Rattle.layout.specs.RuleLayout.{TermsWithin, Layout, ruleBytes}
+use Rattle.layout.specs.RuleLayout.{Layout, ruleBytes}
 use Rattle.layout.specs.BookLayout.{SoundBook, questionMost}
 use Rattle.layout.proofs.RuleLaws.{layout-unique}
 use Rattle.layout.proofs.BookUnique.{book-unique}
@@ -52,6 +52,10 @@ module _ {book : List ℕ} (b : Book) (sound : SoundBook book b) (r : Rule ℕ) 
     written = refl;
   }
 
+-- its bytes say which rule it is
+pub rule-once : {book : List ℕ} (b : Book) → SoundBook book b → (bytes : List ℕ) (r s : Rule ℕ) → RewritingRule b r → RewritingRule b s → ruleBytes r ≡ bytes → ruleBytes s ≡ bytes → r ≡ s
+rule-once b sound bytes r s is other e f = layout-unique (headLengths b) questionMost bytes r s (rw e at (laid-out b sound r is)) (rw f at (laid-out b sound s other))
+
 -- for a rule that is not equivalent no witness passes
 pub passes-only : {book : List ℕ} (b : Book) (sound : SoundBook book b) (r : Rule ℕ) → RewritingRule b r → (witness : List ℕ) → Truth book (ruleBytes r) witness → Equivalent (admittedOf b) (b .question) r
 passes-only {book} b sound r is witness t = subst (λ x. Equivalent (admittedOf b) (b .question) x) same (subst (λ (v : Book). Equivalent (admittedOf v) (v .question) (t .rule)) value (true-equivalent t))
@@ -63,4 +67,4 @@ passes-only {book} b sound r is witness t = subst (λ x. Equivalent (admittedOf 
     other = subst (λ v. RewritingRule v (t .rule)) value (t .is)
 
     same : t .rule ≡ r
-    same = layout-unique (headLengths b) questionMost (ruleBytes r) (t .rule) r (subst (λ x. Layout (headLengths b) questionMost x (t .rule)) (t .written) (laid-out b sound (t .rule) other)) (laid-out b sound r is)
+    same = rule-once b sound (ruleBytes r) (t .rule) r other is (t .written) refl

@@ -1,4 +1,4 @@
-use mathlib.Core.Path.{sym, refl}
+use mathlib.Core.Path.{sym}
 use native.Mathlib.Omega.{arith}
 use Rattle.proposed.proofs.LengthLaws.{count-room, count-few, lent-long, heads-are}
 use borrow.Author.Needs.{needs}
