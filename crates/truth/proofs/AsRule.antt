@@ -3,7 +3,7 @@ use mathlib.Core.Path.{_≡_, refl, sym, ap, _∙_, subst}
 use mathlib.Core.Bool.{Bool, true, false}
 use mathlib.Core.Option.{some, Option·none-ne-some, Option·some-injective}
 use mathlib.Core.List.{List, [], _∷_, map}
-use Prim.Native.Nat.{ℕ, zero, suc, _<_}
+use Prim.Native.Nat.{ℕ, zero, suc, _≤_}
 use native.Mathlib.Omega.{arith}
 use lib.ListN.{length, getD, length-map}
 use Rattle.words.specs.Words.{_∈_, Term, Subgoal, Rule, Fits}
@@ -11,7 +11,7 @@ use Rattle.words.specs.Summaries.{summary}
 use Rattle.words.specs.Refresh.{admitted}
 use Rattle.words.specs.Book.{Summary, Book, ifTrue, admittedOf}
 use Rattle.theory.specs.Sound.{ruleOf}
-use Rattle.layout.specs.RuleLayout.{TermsWithin, Layout, ruleBytes}
+use Rattle.layout.specs.RuleLayout.{Layout, ruleBytes}
 use Rattle.layout.specs.BookLayout.{SoundBook, questionMost}
 use Rattle.layout.proofs.RuleLaws.{layout-unique}
 use Rattle.layout.proofs.BookUnique.{book-unique}
@@ -20,24 +20,24 @@ use Rattle.truth.specs.Truth.{RewritingRule, Truth}
 use Rattle.truth.specs.HeadLengths.{headLengths}
 use Rattle.truth.proofs.Same.{true-equivalent}
 
--- an admitted summary of that number is as wide as the table says
-width-is : (need : ℕ) (ms : List Summary) (n : ℕ) (r : Rule ℕ) → summary (map (ruleOf need) ms) n ≡ some r
-    → (n < suc (length ms)) × (getD (0 ∷ map (λ (m : Summary). length (m .rule .head)) ms) n 0 ≡ length (r .head))
+-- an admitted summary's number is one of the book's, and it is as wide as the table says
+pub width-is : (need : ℕ) (ms : List Summary) (n : ℕ) (r : Rule ℕ) → summary (map (ruleOf need) ms) n ≡ some r
+    → (1 ≤ n) × (n ≤ length ms) × (getD (0 ∷ map (λ (m : Summary). length (m .rule .head)) ms) n 0 ≡ length (r .head))
 width-is need [] n r e = absurd (Option·none-ne-some r e)
 width-is need (m ∷ ms) zero r e = absurd (Option·none-ne-some r e)
-width-is need (m ∷ ms) (suc zero) r e = (omega arith, ap (λ (x : Rule ℕ). length (x .head)) (go (admitted need (m .stamp) (m .rule)) e))
+width-is need (m ∷ ms) (suc zero) r e = (omega arith, omega arith, ap (λ (x : Rule ℕ). length (x .head)) (go (admitted need (m .stamp) (m .rule)) e))
   where
     go : (t : Bool) → ifTrue t (m .rule) ≡ some r → m .rule ≡ r
     go true p = Option·some-injective (m .rule) r p
     go false p = absurd (Option·none-ne-some r p)
-width-is need (m ∷ ms) (suc (suc n)) r e = let w = width-is need ms (suc n) r e in (omega (arith, w .0), w .1)
+width-is need (m ∷ ms) (suc (suc n)) r e = let w = width-is need ms (suc n) r e in (omega arith, omega (arith, w .1), w .2)
 
 module _ {book : List ℕ} (b : Book) (sound : SoundBook book b) (r : Rule ℕ) (is : RewritingRule b r) where
   fits : (g : Subgoal (Term ℕ)) → g ∈ r .body → Fits (headLengths b) g
   fits g m =
       let o = is .over g m in
       let w = width-is (b .need) (b .summaries) (g .relation) (o .rule) (o .admitted) in
-      record { known = omega (arith, w .0, length-map (b .summaries) (λ (m : Summary). length (m .rule .head))); long = o .long ∙ sym (w .1) }
+      record { known = omega (arith, w .1, length-map (b .summaries) (λ (m : Summary). length (m .rule .head))); long = o .long ∙ sym (w .2) }
 
   pub laid-out : Layout (headLengths b) questionMost (ruleBytes r) r
   laid-out = record {
@@ -52,6 +52,10 @@ module _ {book : List ℕ} (b : Book) (sound : SoundBook book b) (r : Rule ℕ) 
     written = refl;
   }
 
+-- its bytes say which rule it is
+pub rule-once : {book : List ℕ} (b : Book) → SoundBook book b → (bytes : List ℕ) (r s : Rule ℕ) → RewritingRule b r → RewritingRule b s → ruleBytes r ≡ bytes → ruleBytes s ≡ bytes → r ≡ s
+rule-once b sound bytes r s is other e f = layout-unique (headLengths b) questionMost bytes r s (rw e at (laid-out b sound r is)) (rw f at (laid-out b sound s other))
+
 -- for a rule that is not equivalent no witness passes
 pub passes-only : {book : List ℕ} (b : Book) (sound : SoundBook book b) (r : Rule ℕ) → RewritingRule b r → (witness : List ℕ) → Truth book (ruleBytes r) witness → Equivalent (admittedOf b) (b .question) r
 passes-only {book} b sound r is witness t = subst (λ x. Equivalent (admittedOf b) (b .question) x) same (subst (λ (v : Book). Equivalent (admittedOf v) (v .question) (t .rule)) value (true-equivalent t))
@@ -63,4 +67,4 @@ passes-only {book} b sound r is witness t = subst (λ x. Equivalent (admittedOf 
     other = subst (λ v. RewritingRule v (t .rule)) value (t .is)
 
     same : t .rule ≡ r
-    same = layout-unique (headLengths b) questionMost (ruleBytes r) (t .rule) r (subst (λ x. Layout (headLengths b) questionMost x (t .rule)) (t .written) (laid-out b sound (t .rule) other)) (laid-out b sound r is)
+    same = rule-once b sound (ruleBytes r) (t .rule) r other is (t .written) refl

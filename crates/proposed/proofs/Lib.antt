@@ -1,0 +1,6 @@
+pub mod Says
+pub mod LengthLaws
+pub mod HeadLaws
+pub mod AdmissionLaws
+pub mod RowLaws
+pub mod Unique
