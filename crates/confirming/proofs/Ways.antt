@@ -30,7 +30,7 @@ use Rattle.confirming.specs.Places.{nowhere, Before, PlaceOf, PairPlaces
 use Rattle.confirming.specs.Steps.{StoodOf, Stood}
 use Rattle.confirming.proofs.Named.{pairs-named, named-pairs, bytes-named, named-bytes}
 
-false-only : {P : Type 0} → (P → ⊥) → (false ≡ true) ↔ P
+pub false-only : {P : Type 0} → (P → ⊥) → (false ≡ true) ↔ P
 false-only h = (λ e. absurd (false≢true e), λ p. absurd (h p))
 
 -- A part of another length is none.

@@ -1,0 +1,104 @@
+-- What is proposed and confirmed is true, and what is true is.
+use mathlib.Core.Path.{_≡_, refl, sym, ap, _∙_, subst}
+use mathlib.Core.Bool.{Bool, true, false}
+use mathlib.Core.List.{List}
+use Prim.Native.Nat.{ℕ, _*_, _≤_}
+use native.Mathlib.Omega.{arith}
+use lib.ListN.{length}
+use Rattle.words.specs.Words.{Rule}
+use Rattle.words.specs.Summaries.{orEmpty, rewriting}
+use Rattle.words.specs.Answer.{There, Back}
+use Rattle.words.specs.Book.{Book, admittedOf}
+use Rattle.layout.specs.BookLayout.{SoundBook, questionMost}
+use Rattle.layout.specs.Refusals.{Refusal}
+use Rattle.layout.proofs.BookUnique.{book-unique}
+use Rattle.layout.proofs.Refused.{sound-unrefused}
+use Rattle.coding.specs.Code.{termCode, wordsOf}
+use Rattle.wording.proofs.WordLaws.{words-length}
+use Rattle.asking.specs.Question.{SomeSound}
+use Rattle.asking.proofs.Lent.{front-again}
+use Rattle.books.specs.Says.{ReadingSays}
+use Rattle.books.specs.declared.Reading.{Reading}
+use Rattle.books.specs.declared.Reading.the-variants.{Sound, Refused}
+use Rattle.telling.specs.Told.{FewOf, Few}
+use Rattle.truth.specs.Truth.{RewritingRule, Truth, Checks}
+use Rattle.truth.proofs.AsRule.{rule-once}
+use Rattle.proposed.specs.Proposed.{IsProposed, Proposed, empty}
+use Rattle.proposed.specs.declared.Proposal.{Proposal}
+use Rattle.confirming.proofs.Ways.{false-only}
+use Rattle.checker.specs.Steps.{Witness, Confirms}
+
+module _ {book bytes : List ℕ} {r : Proposal} (p : Proposed book bytes r) where
+  -- no rule: nothing is true of it
+  pub no-rule : {witness : List ℕ} → r .count ≡ 0 → Checks book bytes witness false
+  no-rule e = record { exactly = false-only (λ t. p .none (t .value) (t .sound) e .none (t .rule) (t .is) (t .written)) }
+
+  module _ (w : SomeSound book) (some : 1 ≤ r .count) where
+    abbrev b : Book
+    b = w .value
+
+    it : IsProposed b bytes r
+    it = p .some b (w .sound) some
+
+    abbrev q : Rule ℕ
+    q = b .question
+
+    few-of : FewOf book (r .words) (r .count) b (it .rule .body)
+    few-of = record {
+      rows-of = record {
+        sound = w .sound;
+        within = record { over = λ g m. let o = it .is .over g m in (o .rule, o .admitted); within = it .is .within };
+        long = λ g m. let o = it .is .over g m in o .long ∙ sym (ap (λ x. length (orEmpty x .head)) (o .admitted));
+        count = sym (it .count);
+        words = front-again (wordsOf termCode (it .rule .body)) empty (r .words) (9 * r .count) (it .words) (words-length termCode (it .rule .body) ∙ ap (λ n. 9 * n) (sym (it .count)));
+      };
+      few = let f = it .is .few in omega (arith, it .count);
+    }
+
+    pub few : Few book (r .words) (r .count)
+    few = record { value = b; list = it .rule .body; is = few-of }
+
+    -- a rule with the question's head is its body read as a rewriting
+    as-rewriting : it .rule ≡ rewriting q (it .rule .body)
+    as-rewriting = λ i. record { head = it .is .head i; body = it .rule .body }
+
+    module _ {witness : List ℕ} {answer : Bool} (c : Confirms book (r .words) (r .count) witness answer) where
+      truth : Witness b (it .rule .body) witness → Truth book bytes witness
+      truth y = record {
+        value = b;
+        sound = w .sound;
+        rule = it .rule;
+        written = it .written;
+        is = it .is;
+        there = y .there;
+        back = y .back;
+        whole = y .whole;
+        goes = subst (λ x. There (admittedOf b) q x (y .there)) (sym as-rewriting) (y .goes);
+        returns = subst (λ x. Back (admittedOf b) q x (y .back)) (sym as-rewriting) (y .returns);
+      }
+
+      only : Truth book bytes witness → Witness b (it .rule .body) witness
+      only t = record {
+        there = t .there;
+        back = t .back;
+        whole = t .whole;
+        goes = subst (λ x. There (admittedOf b) q x (t .there)) same (subst (λ (v : Book). There (admittedOf v) (v .question) (t .rule) (t .there)) value (t .goes));
+        returns = subst (λ x. Back (admittedOf b) q x (t .back)) same (subst (λ (v : Book). Back (admittedOf v) (v .question) (t .rule) (t .back)) value (t .returns));
+      }
+        where
+          value : t .value ≡ b
+          value = book-unique (t .sound) (w .sound)
+
+          same : t .rule ≡ rewriting q (it .rule .body)
+          same = rule-once b (w .sound) bytes (t .rule) (it .rule) (subst (λ v. RewritingRule v (t .rule)) value (t .is)) (it .is) (t .written) (it .written) ∙ as-rewriting
+
+      pub confirmed : Checks book bytes witness answer
+      confirmed = let e = c .exactly b (it .rule .body) few-of in record { exactly = (λ y. truth (e .0 y), λ t. e .1 (only t)) }
+
+-- what the reading says, case by case
+module _ {book : List ℕ} {r : Reading} (says : ReadingSays book r) where
+  pub read-sound : r ≡ Sound → SomeSound book
+  read-sound e = let v = subst (ReadingSays book) e says in record { value = v .0; sound = v .1 }
+
+  pub read-refused : {bytes witness : List ℕ} {k p : ℕ} → r ≡ Refused k p → Checks book bytes witness false
+  read-refused e = record { exactly = false-only (λ t. sound-unrefused (t .sound) (subst (ReadingSays book) e says)) }

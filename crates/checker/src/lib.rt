@@ -1,0 +1,59 @@
+// The checker: a book, a rewriting and a witness, each as bytes. It writes nothing, and searches for nothing.
+ghost use Rattle.asking.specs.Question.{SomeSound};
+ghost use Rattle.telling.specs.Told.{Few};
+ghost use Rattle.truth.specs.Truth.{Checks};
+ghost use Rattle.checker.specs.Steps.{QuestionGoals, Confirms};
+
+use books::Reading;
+use books::parts::part_of;
+use books::read_book;
+use confirming::back::comes_back;
+use confirming::there::goes_there;
+use proposed::propose;
+use wording::places::goal_count;
+
+// How many subgoals the question of a sound book has.
+fn question_goals(book: &[u8]) -> usize
+    requires { ⌜ SomeSound (now book) ⌝ }
+    ensures { λ r. ⌜ QuestionGoals (now (book .entry)) r ⌝ }
+{
+    goal_count(part_of(book, 1))
+}
+
+// The witness of k rows: "per question subgoal, two bytes", and behind them the way back.
+fn confirms(book: &[u8], rows: &[u64], k: usize, witness: &[u8]) -> bool
+    requires { ⌜ Few (now book) (now rows) k ⌝ }
+    ensures { λ r. ⌜ Confirms (now (book .entry)) (now (rows .entry)) k (now (witness .entry)) r ⌝ }
+{
+    let middle = 2 * question_goals(book);
+    if witness.len() < middle {
+        return false;
+    }
+    if goes_there(book, rows, k, &witness[..middle]) {
+        return comes_back(book, rows, k, &witness[middle..]);
+    }
+    false
+}
+
+// Over a sound book.
+fn check_sound(book: &[u8], rewriting: &[u8], witness: &[u8]) -> bool
+    requires { ⌜ SomeSound (now book) ⌝ }
+    ensures { λ r. ⌜ Checks (now (book .entry)) (now (rewriting .entry)) (now (witness .entry)) r ⌝ }
+{
+    let proposal = propose(book, rewriting);
+    if proposal.count == 0 {
+        return false;
+    }
+    let words = proposal.words;
+    confirms(book, &words, proposal.count, witness)
+}
+
+// Every three of bytes: yes exactly if the rewriting is one of the book's question and the witness is its two mappings.
+pub fn check(book: &[u8], rewriting: &[u8], witness: &[u8]) -> bool
+    ensures { λ r. ⌜ Checks (now (book .entry)) (now (rewriting .entry)) (now (witness .entry)) r ⌝ }
+{
+    match read_book(book) {
+        Reading::Refused(_, _) => false,
+        Reading::Sound => check_sound(book, rewriting, witness),
+    }
+}
