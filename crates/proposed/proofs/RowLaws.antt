@@ -19,11 +19,8 @@ use Rattle.layout.proofs.Places.{place-of, getD-in}
 use Rattle.frame.specs.Numbered.{nothing}
 use Rattle.coding.specs.Code.{termCode, wordsOf}
 use Rattle.ties.proofs.AtWords.{relation-at, words-long}
-use Rattle.rules.specs.declared.Verdict.{Verdict}
-use Rattle.rules.specs.declared.Verdict.the-variants.{Sound, Broken, Unsafe, Repeats}
-use Rattle.rules.specs.Judged.{Judged}
 use Rattle.wording.specs.Codes.{atFront}
-use Rattle.wording.specs.Laid.{LaidFor, Laid}
+use Rattle.wording.specs.Laid.{LaidFor}
 use Rattle.wording.specs.Promises.{BodyWords}
 use Rattle.wording.proofs.Stores.{front-length}
 use Rattle.asking.specs.Question.{SomeSound}
@@ -32,30 +29,11 @@ use Rattle.truth.proofs.AsRule.{width-is, laid-out}
 use Rattle.proposed.specs.Lengths.{HeadsAre}
 use Rattle.proposed.specs.Tests.{LaidOut, SameHeads, AdmitsAll}
 use Rattle.proposed.specs.Proposed.{empty, noRows, Proposed, Given}
-use Rattle.proposed.proofs.Says.{says-both, says-yes, says-no}
-
--- what the verdict says of the layout alone: every rule that is not broken has it
-abbrev pub ruled : Verdict → Bool
-ruled Sound = true
-ruled (Broken f) = false
-ruled Unsafe = true
-ruled Repeats = true
-
-pub laid-by : (lengths rewriting : List ℕ) (v w : Verdict) → Judged lengths questionMost false rewriting v → v ≡ w → LaidOut lengths rewriting (ruled w)
-laid-by lengths rewriting v w j e = go w (subst (Judged lengths questionMost false rewriting) e j)
-  where
-    go : (w : Verdict) → Judged lengths questionMost false rewriting w → LaidOut lengths rewriting (ruled w)
-    go Sound x = record { exactly = says-yes (x .rule, x .layout) }
-    go (Broken f) x = record { exactly = says-no (λ o. x .none (o .0) (o .1)) }
-    go Unsafe x = record { exactly = says-yes (x .rule, x .layout) }
-    go Repeats x = record { exactly = says-yes (x .rule, x .layout) }
+use Rattle.proposed.proofs.Says.{says-both}
 
 -- nothing is proposed, for whatever reason
 pub proposed-none : {book rewriting : List ℕ} → ((b : Book) → SoundBook book b → (rule : Rule ℕ) → RewritingRule b rule → ruleBytes rule ≡ rewriting → ⊥) → Proposed book rewriting noRows
 proposed-none never = record { none = λ b s z. record { none = never b s; words = refl }; some = λ b s h. absurd (omega arith) }
-
-pub laid-some : {lengths rewriting : List ℕ} {r : Bool} → LaidOut lengths rewriting r → r ≡ true → Laid rewriting
-laid-some {lengths} l t = let o = l .exactly .0 t in record { arities = lengths; most = questionMost; rule = o .0; layout = o .1 }
 
 module _ {book rewriting lengths : List ℕ} (heads : HeadsAre book lengths) where
   -- a rewriting is laid out over the lengths

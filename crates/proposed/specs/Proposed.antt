@@ -35,6 +35,7 @@ module _ (b : Book) (rewriting : List ℕ) (r : Proposal) where
     pub count : r .count ≡ length (rule .body)
     pub words : r .words ≡ atFront (wordsOf termCode (rule .body)) empty
 
+-- Of every value of the book: no rows exactly if the bytes are no such rule, else its rows.
 pub record Proposed (book rewriting : List ℕ) (r : Proposal) : Type 0 where
   pub none : (b : Book) → SoundBook book b → r .count ≡ 0 → NotProposed b rewriting r
   pub some : (b : Book) → SoundBook book b → 1 ≤ r .count → IsProposed b rewriting r

@@ -1,6 +1,7 @@
 use borrow.Author.Tests.{not-true, not-false}
 use Rattle.asking.proofs.Laid.{question-part, laid}
-use Rattle.proposed.proofs.RowLaws.{laid-some, none-laid, none-headed, rows-given}
+use Rattle.proposed.proofs.LayoutLaws.{laid-some}
+use Rattle.proposed.proofs.RowLaws.{none-laid, none-headed, rows-given}
 use borrow.Author.Needs.{needs}
 use Rattle.proposed.proofs.propose_over.Statement.{statement}
 use Rattle.proposed.proofs.propose_over.Tie as tie

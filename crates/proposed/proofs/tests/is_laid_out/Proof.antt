@@ -1,4 +1,4 @@
-use Rattle.proposed.proofs.RowLaws.{laid-by}
+use Rattle.proposed.proofs.LayoutLaws.{laid-by}
 use borrow.Author.Needs.{needs}
 use Rattle.proposed.proofs.tests.is_laid_out.Statement.{statement}
 use Rattle.proposed.proofs.tests.is_laid_out.Tie as tie
