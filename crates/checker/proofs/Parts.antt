@@ -51,12 +51,14 @@ module _ {book rows : List ℕ} {k : ℕ} {n : ℕ} (goals : QuestionGoals book 
       not-there e = record { exactly = λ b l t. false-only (λ w. false≢true (sym e ∙ there .exactly b l t .1 (subst (There (admittedOf b) (b .question) (rewriting (b .question) l)) (sym (first-is b l t w)) (w .goes)))) }
 
       pub both-parts : first ≡ true → {second : Bool} → BackConfirms book rows k (take (length witness - 2 * n) (drop (2 * n) witness)) second → Confirms book rows k witness second
-      both-parts e {second} back = record { exactly = λ b l t.
-          let f = there .exactly b l t in
-          let g = subst (λ x. (second ≡ true) ↔ Back (admittedOf b) (b .question) (rewriting (b .question) l) x) whole-rest (back .exactly b l t) in (
-            λ y. record { there = take (2 * n) witness; back = drop (2 * n) witness; whole = sym (take-append-drop (2 * n) witness); goes = f .0 e; returns = g .0 y },
-            λ w. g .1 (subst (Back (admittedOf b) (b .question) (rewriting (b .question) l)) (sym (rest-is b l t w)) (w .returns)),
-          ) }
+      both-parts e {second} back = record {
+        exactly = λ b l t.
+            let f = there .exactly b l t in
+            let g = subst (λ x. (second ≡ true) ↔ Back (admittedOf b) (b .question) (rewriting (b .question) l) x) whole-rest (back .exactly b l t) in (
+              λ y. record { there = take (2 * n) witness; back = drop (2 * n) witness; whole = sym (take-append-drop (2 * n) witness); goes = f .0 e; returns = g .0 y },
+              λ w. g .1 (subst (Back (admittedOf b) (b .question) (rewriting (b .question) l)) (sym (rest-is b l t w)) (w .returns)),
+            );
+      }
         where
           whole-rest : take (length witness - 2 * n) (drop (2 * n) witness) ≡ drop (2 * n) witness
           whole-rest = take-all (length witness - 2 * n) (drop (2 * n) witness) (omega (arith, length-drop (2 * n) witness))

@@ -3,7 +3,6 @@ ghost use Rattle.asking.specs.Question.{SomeSound};
 ghost use Rattle.telling.specs.Told.{Few};
 ghost use Rattle.truth.specs.Truth.{Checks};
 ghost use Rattle.checker.specs.Steps.{QuestionGoals, Confirms};
-
 use books::Reading;
 use books::parts::part_of;
 use books::read_book;
