@@ -84,19 +84,19 @@ fn noted(set: u64, x: u64) -> u64
 }
 
 // Where a use has ended, the next one's own variables are not bound.
-pub fn opened(g: [u64; 64], last: u8) -> [u64; 64]
-    ensures { λ h. ⌜ Opened last g h ⌝ }
+// (That a lent array is as long as its type says is no fact that the kit gives, so it is asked for.)
+pub fn opened(g: &mut [u64; 64], last: u8)
+    requires { ⌜ length (now g) ≡ 64 ⌝ }
+    ensures { λ _. ⌜ Opened last (now (g .entry)) (now (g .exit)) ⌝ }
 {
-    let mut h = g;
     if last == 0 {
-        return h;
+        return;
     }
     let mut x: usize = 32;
     while x < 64 {
-        h[x] = 0;
+        g[x] = 0;
         x += 1;
     }
-    h
 }
 
 fn rows_of(used: u64, may: u64, left: usize) -> Rows
@@ -259,18 +259,19 @@ fn place(
     target: &[u64],
     own: &[u8],
     at: usize,
-    b: [u64; 64],
+    b: &[u64; 64],
     from: usize,
     rows: Rows,
 ) -> Placed
     requires { ⌜ Sized (posed (now source) (now widths) (now lasts) (now target) (now own)) ⌝ }
     requires { ⌜ at ≤ length (now widths) ⌝ }
-    ensures { λ r. ⌜ Answer (posed (now (source .entry)) (now (widths .entry)) (now (lasts .entry)) (now (target .entry)) (now (own .entry))) at b from rows r ⌝ }
+    requires { ⌜ length (now b) ≡ 64 ⌝ }
+    ensures { λ r. ⌜ Answer (posed (now (source .entry)) (now (widths .entry)) (now (lasts .entry)) (now (target .entry)) (now (own .entry))) at (now (b .entry)) from rows r ⌝ }
 {
     if widths.len() <= at {
         return whole();
     }
-    let seen = outlook::look(source, widths, lasts, target, own, at, &b, rows);
+    let seen = outlook::look(source, widths, lasts, target, own, at, b, rows);
     if seen.vain {
         return none(seen.why);
     }
@@ -284,7 +285,8 @@ fn place(
             why = shorted(why, e.allowed);
             continue 'candidates;
         }
-        let mut g = b;
+        let kept = b; // the kit takes a loop that copies a parameter by its own name for one that changes it
+        let mut g = *kept;
         let mut new: u64 = 0;
         for a in 0..width(widths[at]) {
             let x = source[9 * at + 1 + a];
@@ -298,8 +300,8 @@ fn place(
                 continue 'candidates;
             }
         }
-        let h = opened(g, lasts[at]);
-        let below = place(source, widths, lasts, target, own, at + 1, h, 0, e.rows);
+        opened(&mut g, lasts[at]);
+        let below = place(source, widths, lasts, target, own, at + 1, &g, 0, e.rows);
         let r = carried(below, at, k, lasts[at]);
         if settled(r.ok, r.why, new, e.free) {
             return r;
@@ -325,7 +327,7 @@ pub fn places_from(
     ensures { λ r. ⌜ PlacesFrom (posed (now (source .entry)) (now (widths .entry)) (now (lasts .entry)) (now (target .entry)) (now (own .entry))) at b from r ⌝ }
 {
     let rows = rows_of(18446744073709551615, 0, 0);
-    let r = place(source, widths, lasts, target, own, at, b, from, rows);
+    let r = place(source, widths, lasts, target, own, at, &b, from, rows);
     if r.ok {
         let ks = r.ks;
         return Places { ok: true, ks };
@@ -367,6 +369,6 @@ pub fn enough(
     ensures { λ r. ⌜ Enough (posed (now (source .entry)) (now (widths .entry)) (now (lasts .entry)) (now (target .entry)) (now (own .entry))) b used may left r ⌝ }
 {
     let rows = rows_of(used, may, left);
-    let r = place(source, widths, lasts, target, own, 0, b, 0, rows);
+    let r = place(source, widths, lasts, target, own, 0, &b, 0, rows);
     r.ok
 }
