@@ -250,7 +250,7 @@ fn none(why: Reasons) -> Placed
     }
 }
 
-// The first places, in order, of the source subgoals from `at` on, that of `at` being `from` or a later one.
+// The first places, in order, of the source subgoals from `at` on.
 // The loops over targets and terms stand in one function, so that the exit at the first unlike term is seen.
 fn place(
     source: &[u64],
@@ -260,13 +260,12 @@ fn place(
     own: &[u8],
     at: usize,
     b: &[u64; 64],
-    from: usize,
     rows: Rows,
 ) -> Placed
     requires { ⌜ Sized (posed (now source) (now widths) (now lasts) (now target) (now own)) ⌝ }
     requires { ⌜ at ≤ length (now widths) ⌝ }
     requires { ⌜ length (now b) ≡ 64 ⌝ }
-    ensures { λ r. ⌜ Answer (posed (now (source .entry)) (now (widths .entry)) (now (lasts .entry)) (now (target .entry)) (now (own .entry))) at (now (b .entry)) from rows r ⌝ }
+    ensures { λ r. ⌜ Answer (posed (now (source .entry)) (now (widths .entry)) (now (lasts .entry)) (now (target .entry)) (now (own .entry))) at (now (b .entry)) rows r ⌝ }
 {
     if widths.len() <= at {
         return whole();
@@ -276,7 +275,7 @@ fn place(
         return none(seen.why);
     }
     let mut why = no_reasons();
-    'candidates: for k in from..own.len() {
+    'candidates: for k in 0..own.len() {
         if target[9 * k] != source[9 * at] {
             continue 'candidates;
         }
@@ -301,7 +300,7 @@ fn place(
             }
         }
         opened(&mut g, lasts[at]);
-        let below = place(source, widths, lasts, target, own, at + 1, &g, 0, e.rows);
+        let below = place(source, widths, lasts, target, own, at + 1, &g, e.rows);
         let r = carried(below, at, k, lasts[at]);
         if settled(r.ok, r.why, new, e.free) {
             return r;
@@ -320,14 +319,13 @@ pub fn places_from(
     own: &[u8],
     at: usize,
     b: [u64; 64],
-    from: usize,
 ) -> Places
     requires { ⌜ Sized (posed (now source) (now widths) (now lasts) (now target) (now own)) ⌝ }
     requires { ⌜ at ≤ length (now widths) ⌝ }
-    ensures { λ r. ⌜ PlacesFrom (posed (now (source .entry)) (now (widths .entry)) (now (lasts .entry)) (now (target .entry)) (now (own .entry))) at b from r ⌝ }
+    ensures { λ r. ⌜ PlacesFrom (posed (now (source .entry)) (now (widths .entry)) (now (lasts .entry)) (now (target .entry)) (now (own .entry))) at b r ⌝ }
 {
     let rows = rows_of(18446744073709551615, 0, 0);
-    let r = place(source, widths, lasts, target, own, at, &b, from, rows);
+    let r = place(source, widths, lasts, target, own, at, &b, rows);
     if r.ok {
         let ks = r.ks;
         return Places { ok: true, ks };
@@ -350,7 +348,7 @@ pub fn first_places(
     requires { ⌜ Sized (posed (now source) (now widths) (now lasts) (now target) (now own)) ⌝ }
     ensures { λ r. ⌜ FirstPlaces (posed (now (source .entry)) (now (widths .entry)) (now (lasts .entry)) (now (target .entry)) (now (own .entry))) b r ⌝ }
 {
-    places_from(source, widths, lasts, target, own, 0, b, 0)
+    places_from(source, widths, lasts, target, own, 0, b)
 }
 
 // Whether some mapping's targets lie in the rows in use and at most `left` of those that may be taken.
@@ -369,6 +367,6 @@ pub fn enough(
     ensures { λ r. ⌜ Enough (posed (now (source .entry)) (now (widths .entry)) (now (lasts .entry)) (now (target .entry)) (now (own .entry))) b used may left r ⌝ }
 {
     let rows = rows_of(used, may, left);
-    let r = place(source, widths, lasts, target, own, 0, &b, 0, rows);
+    let r = place(source, widths, lasts, target, own, 0, &b, rows);
     r.ok
 }

@@ -46,17 +46,17 @@ place-below t = and 6 place-kinds.ps (falls 6 place-kinds.ps _<_ μ-place t) pla
 
 -- the terms so far agree
 abbrev place-Inv-loop : place-lts.InvT-loop
-place-Inv-loop source widths lasts target own at b from rows why₀ k₀ e g₀ new₀ a₀ k-end a-end why k g new a = (a ≤ a-end) × (why ≡ why₀) × (k ≡ k₀) × Guess (posed source widths lasts target own) b at k₀ a g new
+place-Inv-loop source widths lasts target own at b rows why₀ k₀ e g₀ new₀ a₀ k-end a-end why k g new a = (a ≤ a-end) × (why ≡ why₀) × (k ≡ k₀) × Guess (posed source widths lasts target own) b at k₀ a g new
 
 abbrev place-μ-loop : place-lts.MeasureT-loop
-place-μ-loop source widths lasts target own at b from rows why₀ k₀ e g₀ new₀ a₀ k-end a-end why k g new a = a-end - a
+place-μ-loop source widths lasts target own at b rows why₀ k₀ e g₀ new₀ a₀ k-end a-end why k g new a = a-end - a
 
 -- the targets so far are refuted
 abbrev place-Inv-candidates : place-lts.InvT-candidates
-place-Inv-candidates source widths lasts target own at b from rows why₀ k₀ k-end why k = (from ≤ k) × Refuted (posed source widths lasts target own) at b from rows why k
+place-Inv-candidates source widths lasts target own at b rows why₀ k₀ k-end why k = Refuted (posed source widths lasts target own) at b rows why k
 
 abbrev place-μ-candidates : place-lts.MeasureT-candidates
-place-μ-candidates source widths lasts target own at b from rows why₀ k₀ k-end why k = k-end - k
+place-μ-candidates source widths lasts target own at b rows why₀ k₀ k-end why k = k-end - k
 
 -- st is where the function starts, cd where a target is taken up, lp where a term is
 pub +place-spec : {M : Type 1} → statement M
@@ -74,16 +74,16 @@ pub +place-spec : {M : Type 1} → statement M
     (λ c κs. search needs)
     -- returns
     (λ c. let st = c .before .before .before .before .before .before .before in
-    rw (c .whole .ensures) (answer-end _ _ _ _ _ (c .before .if1 .taken) (omega (arith, st .pre .1 .0 .few, st .pre .1 .1 .0))))
+    rw (c .whole .ensures) (answer-end _ _ _ _ (c .before .if1 .taken) (omega (arith, st .pre .1 .0 .few, st .pre .1 .1 .0))))
     -- look-requires
     (λ c κs. let st = c .before .before .before .before .before .before in
     st .pre .1 .0)
     (λ c κs. search needs)
     -- returns-2
-    (λ c. rw (c .none .ensures) (answer-vain _ _ _ _ _ _ (c .before .before .look .ensures) (c .before .if2 .taken)))
+    (λ c. rw (c .none .ensures) (answer-vain _ _ _ _ _ (c .before .before .look .ensures) (c .before .if2 .taken)))
     (λ c κs. search needs)
     -- candidates-holds
-    (λ c. (omega arith, refuted-start _ _ _ _ _ _))
+    (λ c. refuted-start _ _ _ _ _)
     (λ c. search needs)
     (λ c. search needs)
     (λ c. search needs)
@@ -94,7 +94,7 @@ pub +place-spec : {M : Type 1} → statement M
     (λ c. search needs)
     -- candidates-again
     (λ c. let cd = c .before .before .before .before in
-    (omega (arith, cd .candidates .inv .0), refuted-relation _ _ _ _ _ _ _ (c .if3 .taken) (cd .candidates .inv .1)))
+    refuted-relation _ _ _ _ _ _ (c .if3 .taken) (cd .candidates .inv))
     (λ c. search needs)
     -- enters-requires
     (λ c κs. let cd = c .before .before .before .before .before in
@@ -107,7 +107,7 @@ pub +place-spec : {M : Type 1} → statement M
     (λ c. search needs)
     -- candidates-again-2
     (λ c. let cd = c .before .before .before .before .before .before .before .before .before in
-    (omega (arith, cd .candidates .inv .0), rw (c .shorted .ensures) (refuted-row _ _ _ _ _ _ _ (c .before .before .before .enters .ensures) _ (not-true _ (c .before .if4 .taken)) (cd .candidates .inv .1))))
+    rw (c .shorted .ensures) (refuted-row _ _ _ _ _ _ (c .before .before .before .enters .ensures) _ (not-true _ (c .before .if4 .taken)) (cd .candidates .inv)))
     (λ c. search needs)
     -- width-requires
     (λ c κs. let st = c .before .before .before .before .before .before .before .before .before .before .before .before .before .before .before .before .before .before .before .before in
@@ -173,7 +173,7 @@ pub +place-spec : {M : Type 1} → statement M
     let cd = lp .before .before .before .before .before .before .before .before .before .before .before .before in
     let l = lp .loop in
     let stood = c .before .before .before .before .stands .ensures in
-    (omega (arith, cd .candidates .inv .0, l .inv .2), rw (c .blamed .ensures, l .inv .1, l .inv .2) (refuted-unlike _ _ _ _ _ _ (l .a) (l .g) (l .new) (l .inv .3) _ (omega (arith, lp .before .width .ensures .0, c .before .before .before .before .before .before .before .before .loop-test .taken)) (λ e. c .before .before .before .if5 .left (stood ∙ e)) (λ e. eqb-false _ _ (sym (c .before .before .alike .ensures) ∙ not-true _ (c .before .if6 .taken)) (stood ∙ e ∙ rw (l .inv .2))) (cd .candidates .inv .1))))
+    rw (c .blamed .ensures, l .inv .1, l .inv .2) (refuted-unlike _ _ _ _ _ (l .a) (l .g) (l .new) (l .inv .3) _ (omega (arith, lp .before .width .ensures .0, c .before .before .before .before .before .before .before .before .loop-test .taken)) (λ e. c .before .before .before .if5 .left (stood ∙ e)) (λ e. eqb-false _ _ (sym (c .before .before .alike .ensures) ∙ not-true _ (c .before .if6 .taken)) (stood ∙ e ∙ rw (l .inv .2))) (cd .candidates .inv)))
     (λ c. search needs)
     (λ c. search needs)
     -- loop-again
@@ -218,7 +218,7 @@ pub +place-spec : {M : Type 1} → statement M
     let cd = lp .before .before .before .before .before .before .before .before .before .before .before .before in
     let l = lp .loop in
     let n = lp .before .before .before .before .before .before .enters .ensures in
-    answer-settled _ _ _ _ _ (cd .before .before .before .before .if1 .left) _ _ _ _ (guess-full _ _ _ _ _ _ _ _ (omega (arith, lp .before .width .ensures .0, l .inv .0)) (omega (arith, lp .before .width .ensures .0, c .before .before .before .before .before .before .before .before .before .loop-test .left)) (l .inv .3)) (c .before .before .before .before .before .before .opened .ensures) _ (answer-below _ _ _ _ _ _ n _ (c .before .before .before .before .place .ensures)) _ (lp .before .before .before .before .before .before .before .before .before .before .before .candidates-test .taken) (cd .candidates .inv .0) (lp .before .before .before .before .before .before .before .before .if3 .left) (n .afforded .0 (not-false _ (lp .before .before .before .before .if4 .left))) (cd .candidates .inv .1) _ (n .free .0) _ (rw (l .inv .2) at (c .before .before .carried .ensures)) _ (c .before .settled .ensures) (c .if7 .taken))
+    answer-settled _ _ _ _ (cd .before .before .before .before .if1 .left) _ _ _ _ (guess-full _ _ _ _ _ _ _ _ (omega (arith, lp .before .width .ensures .0, l .inv .0)) (omega (arith, lp .before .width .ensures .0, c .before .before .before .before .before .before .before .before .before .loop-test .left)) (l .inv .3)) (c .before .before .before .before .before .before .opened .ensures) _ (answer-below _ _ _ _ _ _ n _ (c .before .before .before .before .place .ensures)) _ (lp .before .before .before .before .before .before .before .before .before .before .before .candidates-test .taken) (lp .before .before .before .before .before .before .before .before .if3 .left) (n .afforded .0 (not-false _ (lp .before .before .before .before .if4 .left))) (cd .candidates .inv) _ (n .free .0) _ (rw (l .inv .2) at (c .before .before .carried .ensures)) _ (c .before .settled .ensures) (c .if7 .taken))
     (λ c κs. search needs)
     -- add-k-4
     (λ c. let lp = c .before .before .before .before .before .before .before .before .before .before .before in
@@ -232,7 +232,7 @@ pub +place-spec : {M : Type 1} → statement M
     let cd = lp .before .before .before .before .before .before .before .before .before .before .before .before in
     let l = lp .loop in
     let q = c .before .before .before .carried .ensures in
-    (omega (arith, cd .candidates .inv .0, l .inv .2), rw (c .joined .ensures, l .inv .1, l .inv .2, q) (refuted-below _ _ _ _ _ _ _ _ _ (guess-full _ _ _ _ _ _ _ _ (omega (arith, lp .before .width .ensures .0, l .inv .0)) (omega (arith, lp .before .width .ensures .0, c .before .before .before .before .before .before .before .before .before .before .loop-test .left)) (l .inv .3)) (c .before .before .before .before .before .before .before .opened .ensures) _ ((answer-below _ _ _ _ _ _ (lp .before .before .before .before .before .before .enters .ensures) _ (c .before .before .before .before .before .place .ensures)) .none (unsettled _ _ _ _ _ (rw q at (c .before .before .settled .ensures)) (c .before .if7 .left))) _ (cd .candidates .inv .1))))
+    rw (c .joined .ensures, l .inv .1, l .inv .2, q) (refuted-below _ _ _ _ _ _ _ _ (guess-full _ _ _ _ _ _ _ _ (omega (arith, lp .before .width .ensures .0, l .inv .0)) (omega (arith, lp .before .width .ensures .0, c .before .before .before .before .before .before .before .before .before .before .loop-test .left)) (l .inv .3)) (c .before .before .before .before .before .before .before .opened .ensures) _ ((answer-below _ _ _ _ _ _ (lp .before .before .before .before .before .before .enters .ensures) _ (c .before .before .before .before .before .place .ensures)) .none (unsettled _ _ _ _ _ (rw q at (c .before .before .settled .ensures)) (c .before .if7 .left))) _ (cd .candidates .inv)))
     (λ c κs. search needs)
     -- returns-4
-    (λ c. rw (c .none2 .ensures) (answer-none _ _ _ _ _ (c .before .before .before .before .before .before .if1 .left) _ _ (c .before .candidates-test .left) (c .before .before .candidates .inv .1)))
+    (λ c. rw (c .none2 .ensures) (answer-none _ _ _ _ (c .before .before .before .before .before .before .if1 .left) _ _ (c .before .candidates-test .left) (c .before .before .candidates .inv)))
