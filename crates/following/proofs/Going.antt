@@ -10,7 +10,6 @@ use lib.Seq.{slice, slice-empty, slice-cons}
 use Rattle.placing.specs.Task.{Task, goals, targets, Agrees, Linked, Completes, done}
 use Rattle.placing.specs.Mapped.{Mapped}
 use Rattle.placing.specs.Answer.{Completion}
-use Rattle.placing.proofs.Refuted.{from-zero}
 use Rattle.placing.proofs.Onward.{step, stepped}
 use Rattle.placing.proofs.Chain.{completion-mapped, mapped-completion}
 use Rattle.following.specs.Follows.{Follows}
@@ -19,8 +18,8 @@ use Rattle.following.specs.declared.Next.{Next}
 
 pub record Going (p : Task) (b ks : List ℕ) (i : ℕ) (g : List ℕ) : Type 0 where
   pub far : i ≤ goals p
-  pub to : Mapped p b (take (goals p) ks) → Completion p i g 0 (slice i (goals p) ks)
-  pub back : Completion p i g 0 (slice i (goals p) ks) → Mapped p b (take (goals p) ks)
+  pub to : Mapped p b (take (goals p) ks) → Completion p i g (slice i (goals p) ks)
+  pub back : Completion p i g (slice i (goals p) ks) → Mapped p b (take (goals p) ks)
 
 module _ (p : Task) (b ks : List ℕ) where
   pub going-start : Going p b ks 0 b
@@ -29,7 +28,7 @@ module _ (p : Task) (b ks : List ℕ) where
   module _ (i : ℕ) (g : List ℕ) (c : Going p b ks i g) where
     -- nothing is left: some values have what is bound there
     pub going-end : goals p ≤ i → Follows p b ks true
-    going-end h = record { exactly = ((λ e. c .back (rw empty (record { val = λ x. getD g x 0; extends = λ x f. refl; fromOn = tt; completes = rw left done }))), λ m. refl) }
+    going-end h = record { exactly = ((λ e. c .back (rw empty (record { val = λ x. getD g x 0; extends = λ x f. refl; completes = rw left done }))), λ m. refl) }
       where
         over : i ≡ goals p
         over = omega (arith, c .far)
@@ -66,13 +65,13 @@ module _ (p : Task) (b ks : List ℕ) where
         pub going-more : r .ok ≡ true → Going p b ks (i + 1) (r .bound)
         going-more y = rw (add-one i) (record { far = omega arith; to = to; back = back })
           where
-            to : Mapped p b (take (goals p) ks) → Completion p (suc i) (r .bound) 0 (slice (suc i) (goals p) ks)
+            to : Mapped p b (take (goals p) ks) → Completion p (suc i) (r .bound) (slice (suc i) (goals p) ks)
             to m =
                 let d = c .to m in
                 let o = goes (d .val) (d .completes) in
-                record { val = o .w; extends = s .passed y .after (d .val) (o .w) (d .extends) (o .agrees) (o .linked); fromOn = from-zero (slice (suc i) (goals p) ks); completes = o .rest }
+                record { val = o .w; extends = s .passed y .after (d .val) (o .w) (d .extends) (o .agrees) (o .linked); completes = o .rest }
 
-            back : Completion p (suc i) (r .bound) 0 (slice (suc i) (goals p) ks) → Mapped p b (take (goals p) ks)
+            back : Completion p (suc i) (r .bound) (slice (suc i) (goals p) ks) → Mapped p b (take (goals p) ks)
             back d =
                 let u = s .passed y .over (d .val) (d .extends) in
-                c .back (rw cons (record { val = u .0; extends = u .1; fromOn = omega arith; completes = stepped p i more (getD ks i 0) (u .0) (d .val) (slice (suc i) (goals p) ks) (s .passed y .within) (u .2) (u .3) (d .completes) }))
+                c .back (rw cons (record { val = u .0; extends = u .1; completes = stepped p i more (getD ks i 0) (u .0) (d .val) (slice (suc i) (goals p) ks) (s .passed y .within) (u .2) (u .3) (d .completes) }))

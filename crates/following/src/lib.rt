@@ -64,8 +64,8 @@ fn step(
             };
         }
     }
-    let bound = opened(g, lasts[i]);
-    Next { ok: true, bound }
+    opened(&mut g, lasts[i]);
+    Next { ok: true, bound: g }
 }
 
 // The pass itself, over a copy of the places: an array by value is known to have its length.

@@ -11,7 +11,6 @@ use borrow.Author.Tests.{lt-ltb, le-ltb, eq-eqb, ne-eqb}
 use Rattle.placing.specs.Task.{Task, goals, targets, lastOf, Agrees, Linked, Completes, done, put, Extends}
 use Rattle.placing.specs.Mapped.{useOf, Lands, Mapped}
 use Rattle.placing.specs.Answer.{Completion}
-use Rattle.placing.proofs.Refuted.{from-zero}
 
 module _ (p : Task) where
   same-use : (i : ℕ) → lastOf p i ≡ 0 → useOf p (suc i) ≡ useOf p i
@@ -98,7 +97,7 @@ module _ (p : Task) where
   unchain zero at v l done = record { val = λ u. v; now = refl; shared = λ u x h. refl; long = refl; lands = λ i h. absurd (omega arith) }
   unchain (suc n) at v l (put h a c s) = on n at _ v _ _ h a c (unchain n (suc at) _ _ s)
 
-  pub completion-mapped : (b l : List ℕ) → Completion p 0 b 0 l → Mapped p b l
+  pub completion-mapped : (b l : List ℕ) → Completion p 0 b l → Mapped p b l
   completion-mapped b l c =
       let e : goals p - 0 ≡ goals p = omega arith in
       let f = unchain (goals p) 0 (c .val) l (rw e at (c .completes)) in
@@ -110,8 +109,8 @@ module _ (p : Task) where
         lands = λ i h. let z : 0 + i ≡ i = omega arith in rw z at (f .lands i h);
       }
 
-  pub mapped-completion : (b l : List ℕ) → Mapped p b l → Completion p 0 b 0 l
+  pub mapped-completion : (b l : List ℕ) → Mapped p b l → Completion p 0 b l
   mapped-completion b l m =
       let e : goals p - 0 ≡ goals p = omega arith in
       let c = chain (goals p) 0 (m .val) l (m .shared) (m .long) (λ i h. let z : 0 + i ≡ i = omega arith in rw z (m .lands i h)) in
-      record { val = m .val 0; extends = m .given; fromOn = from-zero l; completes = rw e (rw first-use at c) }
+      record { val = m .val 0; extends = m .given; completes = rw e (rw first-use at c) }

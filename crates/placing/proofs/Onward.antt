@@ -1,7 +1,7 @@
 -- Over one target: from the places of the rest to those of this source subgoal on, and back.
 use mathlib.Core.Path.{_≡_, refl, sym, _∙_}
 use mathlib.Core.List.{List, _∷_}
-use Prim.Native.Nat.{ℕ, suc, _-_, _<_, _≤_}
+use Prim.Native.Nat.{ℕ, suc, _-_, _<_}
 use native.Mathlib.Omega.{arith}
 use lib.ListN.{getD}
 use Rattle.placing.specs.Task.{Task, goals, targets, targetRelation, sourceRelation, widthOf, lastOf, Agrees, Linked, Completes, put, Extends}
@@ -48,7 +48,7 @@ module _ (p : Task) (at : ℕ) (b : List ℕ) (k : ℕ) (g h : List ℕ) (new : 
       let u = before p at g h o w e in
       (u .0, (λ x n. u .1 x (λ z. n (sym (c .keeps x n) ∙ z)) ∙ c .keeps x n), record { relation = rel; terms = c .fits (u .0) (u .1) }, u .2)
 
-  pub onward : at < goals p → k < targets p → targetRelation p k ≡ sourceRelation p at → (from : ℕ) → from ≤ k → (l : List ℕ) → Completion p (suc at) h 0 l → Completion p at b from (k ∷ l)
-  onward more i rel from fk l d =
+  pub onward : at < goals p → k < targets p → targetRelation p k ≡ sourceRelation p at → (l : List ℕ) → Completion p (suc at) h l → Completion p at b (k ∷ l)
+  onward more i rel l d =
       let u = over rel (d .val) (d .extends) in
-      record { val = u .0; extends = u .1; fromOn = fk; completes = stepped p at more k (u .0) (d .val) l i (u .2) (u .3) (d .completes) }
+      record { val = u .0; extends = u .1; completes = stepped p at more k (u .0) (d .val) l i (u .2) (u .3) (d .completes) }

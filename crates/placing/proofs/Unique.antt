@@ -29,8 +29,8 @@ module _ (Ok : List ℕ → Type 0) (at : ℕ) (r s : Places) (f : FirstOf Ok at
       go false true a b = let l = g .found b in absurd (f .none a .1 (l .0) (l .2 .holds))
       go false false a b = λ i. record { ok = (a ∙ sym b) i; ks = (f .none a .0 ∙ sym (g .none b .0)) i }
 
-pub places-from-unique : (p : Task) (at : ℕ) (b : List ℕ) (from : ℕ) (r s : Places) → PlacesFrom p at b from r → PlacesFrom p at b from s → r ≡ s
-places-from-unique p at b from = first-of-unique _ at
+pub places-from-unique : (p : Task) (at : ℕ) (b : List ℕ) (r s : Places) → PlacesFrom p at b r → PlacesFrom p at b s → r ≡ s
+places-from-unique p at b = first-of-unique _ at
 
 pub first-places-unique : (p : Task) (b : List ℕ) (r s : Places) → FirstPlaces p b r → FirstPlaces p b s → r ≡ s
 first-places-unique p b = first-of-unique _ 0

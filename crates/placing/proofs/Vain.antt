@@ -14,7 +14,7 @@ use Rattle.bits.proofs.Laws.{has-none, or-left, or-right}
 use Rattle.words.specs.Words.{_∈_}
 use Rattle.placing.specs.Task.{Task, posed, Sized, goals, targets, sourceTerm, widthOf, lastOf, rowOf, valueOf, Agrees, Completes, done, put}
 use Rattle.placing.specs.Taking.{InRows, Affords, Open}
-use Rattle.placing.specs.Answer.{AgreesOn, FromOn, Failed}
+use Rattle.placing.specs.Answer.{AgreesOn, Failed}
 use Rattle.placing.specs.Steps.{stood}
 use Rattle.placing.specs.Outlook.{UseEnd, Suits, Readable, Offers, SlotsOf, memberOf, Steady, Wanting, Most, noWants, fairly, vainly, Outlooks}
 use Rattle.placing.specs.declared.Rows.{Rows}
@@ -88,7 +88,7 @@ module _ (p : Task) (at : ℕ) (b : List ℕ) (rows : Rows) where
   pub fair-said : Outlooks p at b rows fairly
   fair-said = record { vain = λ e. absurd (false≢true e) }
 
-  pub vain-said : (slots : ℕ) (short : Bool) → ((from : ℕ) → Failed p at b from rows record { slots = slots; short = short }) → Outlooks p at b rows (vainly slots short)
+  pub vain-said : (slots : ℕ) (short : Bool) → Failed p at b rows record { slots = slots; short = short } → Outlooks p at b rows (vainly slots short)
   vain-said slots short f = record { vain = λ e. f }
 
 module _ (p : Task) (z : Sized p) (at end : ℕ) (u : UseEnd (p .lasts) at end) where
@@ -121,11 +121,11 @@ module _ (p : Task) (z : Sized p) (at end : ℕ) (u : UseEnd (p .lasts) at end) 
   either x (inr m) = or-right (rows .used) (rows .may) x m
 
   -- no row has a target for it
-  pub vain-none : (i : ℕ) → at ≤ i → i < end → (slots : ℕ) → SlotsOf p i 0 slots → Offers p b (rows .used) (bitOr (rows .used) (rows .may)) i 0 → (from : ℕ) → Failed p at b from rows record { slots = slots; short = false }
-  vain-none i h j slots s f from = record { never = never }
+  pub vain-none : (i : ℕ) → at ≤ i → i < end → (slots : ℕ) → SlotsOf p i 0 slots → Offers p b (rows .used) (bitOr (rows .used) (rows .may)) i 0 → Failed p at b rows record { slots = slots; short = false }
+  vain-none i h j slots s f = record { never = never }
     where
-      never : (v : ℕ → ℕ) (l : List ℕ) → AgreesOn b slots v → FromOn from l → Completes p (goals p - at) at v l → Open p (rows .used) (rows .may) l → (false ≡ true → Affords p (rows .used) (rows .may) (rows .left) l) → ⊥
-      never v l on t c o d =
+      never : (v : ℕ → ℕ) (l : List ℕ) → AgreesOn b slots v → Completes p (goals p - at) at v l → Open p (rows .used) (rows .may) l → (false ≡ true → Affords p (rows .used) (rows .may) (rows .left) l) → ⊥
+      never v l on c o d =
           let k = sent i h j 0 slots s v l on c in
           has-none (rowOf p (k .k)) (f .each (λ x m. absurd (has-none x m)) (k .k) (k .within) (either (rowOf p (k .k)) (o (k .k) (k .inside))) (k .fits))
 
@@ -171,8 +171,8 @@ module _ (p : Task) (z : Sized p) (at end : ℕ) (u : UseEnd (p .lasts) at end) 
 
 module _ (p : Task) (at : ℕ) (b : List ℕ) (rows : Rows) where
   -- more want rows than those left can serve
-  pub vain-many : (w : Wants) (i : ℕ) → Wanted p at b rows w i → (m : ℕ) → Most (w .served) m → rows .left * m < w .many → (from : ℕ) → Failed p at b from rows record { slots = w .slots; short = true }
-  vain-many w i q m y h from = record { never = never }
+  pub vain-many : (w : Wants) (i : ℕ) → Wanted p at b rows w i → (m : ℕ) → Most (w .served) m → rows .left * m < w .many → Failed p at b rows record { slots = w .slots; short = true }
+  vain-many w i q m y h = record { never = never }
     where
       each : (x : ℕ) → getD (w .served) x 0 ≤ m
       each x = elim (decLt x 64) [
@@ -180,7 +180,7 @@ module _ (p : Task) (at : ℕ) (b : List ℕ) (rows : Rows) where
         | no n ↦ let e : getD (w .served) x 0 ≡ 0 = List·getD-eq-default (w .served) 0 (omega (arith, q .long)) in omega arith
       ]
 
-      never : (v : ℕ → ℕ) (l : List ℕ) → AgreesOn b (w .slots) v → FromOn from l → Completes p (goals p - at) at v l → Open p (rows .used) (rows .may) l → (true ≡ true → Affords p (rows .used) (rows .may) (rows .left) l) → ⊥
-      never v l on t c o d =
+      never : (v : ℕ → ℕ) (l : List ℕ) → AgreesOn b (w .slots) v → Completes p (goals p - at) at v l → Open p (rows .used) (rows .may) l → (true ≡ true → Affords p (rows .used) (rows .may) (rows .left) l) → ⊥
+      never v l on c o d =
           let r = affords-rows p (rows .may) (rows .used) (rows .left) l (d refl) in
           omega (arith, q .taken v l on c r, total-most (w .served) m each (r .taken), mul-le-mul-right m (r .few))

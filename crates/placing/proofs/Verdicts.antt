@@ -27,32 +27,32 @@ first-alike : {A : Type 0} {P Q : A → Type 0} {Before : A → A → Type 0} �
 first-alike to back a f = record { holds = to a (f .holds); least = λ b h. f .least b (back b h) }
 
 -- a failure leaves nothing that the rows allow
-none-afforded : (p : Task) (at : ℕ) (b : List ℕ) (from : ℕ) (rows : Rows) (r : Placed) → Answer p at b from rows r → r .ok ≡ false → (l : List ℕ) → Afforded p at b from rows l → ⊥
-none-afforded p at b from rows r a n l c =
+none-afforded : (p : Task) (at : ℕ) (b : List ℕ) (rows : Rows) (r : Placed) → Answer p at b rows r → r .ok ≡ false → (l : List ℕ) → Afforded p at b rows l → ⊥
+none-afforded p at b rows r a n l c =
     let d = c .completion in
-    a .none n .never (d .val) l (λ x h. d .extends x) (d .fromOn) (d .completes) (affords-open p (rows .used) (rows .may) (rows .left) l (c .affords)) (λ s. c .affords)
+    a .none n .never (d .val) l (λ x h. d .extends x) (d .completes) (affords-open p (rows .used) (rows .may) (rows .left) l (c .affords)) (λ s. c .affords)
 
 -- with every row in use the rows allow everything
-module _ (p : Task) (z : Sized p) (at : ℕ) (b : List ℕ) (from : ℕ) (r : Placed) (a : Answer p at b from (rowsOf 18446744073709551615 0 0) r) where
+module _ (p : Task) (z : Sized p) (at : ℕ) (b : List ℕ) (r : Placed) (a : Answer p at b (rowsOf 18446744073709551615 0 0) r) where
   allowed : (l : List ℕ) → Affords p 18446744073709551615 0 0 l
   allowed = affords-used p 18446744073709551615 0 0 (λ k. all-has (rowOf p k) (z .rows k))
 
-  pub places-found : r .ok ≡ true → PlacesFrom p at b from record { ok = true; ks = r .ks }
+  pub places-found : r .ok ≡ true → PlacesFrom p at b record { ok = true; ks = r .ks }
   places-found y =
       let f = a .found y in
       record { found = λ e. (f .0, f .1, first-alike (λ l c. c .completion) (λ l c. record { completion = c; affords = allowed l }) (f .0) (f .2)); none = λ e. absurd (true≢false e) }
 
-  pub places-none : r .ok ≡ false → PlacesFrom p at b from record { ok = false; ks = replicate 96 0 }
-  places-none n = record { found = λ e. absurd (false≢true e); none = λ e. (laid-none 0 (omega arith), λ l c. none-afforded p at b from (rowsOf 18446744073709551615 0 0) r a n l (record { completion = c; affords = allowed l })) }
+  pub places-none : r .ok ≡ false → PlacesFrom p at b record { ok = false; ks = replicate 96 0 }
+  places-none n = record { found = λ e. absurd (false≢true e); none = λ e. (laid-none 0 (omega arith), λ l c. none-afforded p at b (rowsOf 18446744073709551615 0 0) r a n l (record { completion = c; affords = allowed l })) }
 
-pub places-mapped : (p : Task) (b : List ℕ) (r : Places) → PlacesFrom p 0 b 0 r → FirstPlaces p b r
+pub places-mapped : (p : Task) (b : List ℕ) (r : Places) → PlacesFrom p 0 b r → FirstPlaces p b r
 places-mapped p b r f =
     record {
       found = λ y. let g = f .found y in (g .0, g .1, first-alike (completion-mapped p b) (mapped-completion p b) (g .0) (g .2));
       none = λ n. let g = f .none n in (g .0, λ l m. g .1 l (mapped-completion p b l m));
     }
 
-pub answer-enough : (p : Task) (b : List ℕ) (used may left : ℕ) (r : Placed) → Answer p 0 b 0 (rowsOf used may left) r → Enough p b used may left (r .ok)
+pub answer-enough : (p : Task) (b : List ℕ) (used may left : ℕ) (r : Placed) → Answer p 0 b (rowsOf used may left) r → Enough p b used may left (r .ok)
 answer-enough p b used may left r a = record { exactly = (some, every (r .ok) refl) }
   where
     some : r .ok ≡ true → Feasible p b used may left
@@ -63,4 +63,4 @@ answer-enough p b used may left r a = record { exactly = (some, every (r .ok) re
 
     every : (ok : Bool) → r .ok ≡ ok → Feasible p b used may left → ok ≡ true
     every true e f = refl
-    every false e f = absurd (none-afforded p 0 b 0 (rowsOf used may left) r a e (f .places) (record { completion = mapped-completion p b (f .places) (f .mapped); affords = rows-affords p may used left (f .places) (f .within) }))
+    every false e f = absurd (none-afforded p 0 b (rowsOf used may left) r a e (f .places) (record { completion = mapped-completion p b (f .places) (f .mapped); affords = rows-affords p may used left (f .places) (f .within) }))

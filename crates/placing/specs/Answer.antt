@@ -1,9 +1,9 @@
 -- What the search itself answers, from some source subgoal on.
-use mathlib.Core.Bool.{Bool, true, false}
+use mathlib.Core.Bool.{true, false}
 use mathlib.Core.Path.{_≡_}
-use mathlib.Core.List.{List, [], _∷_}
-use Prim.Native.Nat.{ℕ, _-_, _<_, _≤_}
-use lib.ListN.{length, getD}
+use mathlib.Core.List.{List}
+use Prim.Native.Nat.{ℕ, _-_, _<_}
+use lib.ListN.{getD}
 use Rattle.bits.specs.Sets.{Has}
 use Rattle.words.specs.Order.{ListBefore, First}
 use Rattle.placing.specs.Task.{Task, goals, Completes, Extends}
@@ -14,21 +14,15 @@ use Rattle.placing.specs.declared.Placed.{Placed}
 use Rattle.placing.specs.declared.Places.{Places}
 use Rattle.placing.specs.declared.Rows.{Rows}
 
--- the first of the places is `from` or a later one
-abbrev pub FromOn : ℕ → List ℕ → Type 0
-FromOn from [] = Unit {0}
-FromOn from (k ∷ l) = from ≤ k
-
 -- l completes the bindings b: the places of all source subgoals from at on
-pub record Completion (p : Task) (at : ℕ) (b : List ℕ) (from : ℕ) (l : List ℕ) : Type 0 where
+pub record Completion (p : Task) (at : ℕ) (b : List ℕ) (l : List ℕ) : Type 0 where
   pub val : ℕ → ℕ
   pub extends : Extends b val
-  pub fromOn : FromOn from l
   pub completes : Completes p (goals p - at) at val l
 
 -- .. and the rows allow it
-pub record Afforded (p : Task) (at : ℕ) (b : List ℕ) (from : ℕ) (rows : Rows) (l : List ℕ) : Type 0 where
-  pub completion : Completion p at b from l
+pub record Afforded (p : Task) (at : ℕ) (b : List ℕ) (rows : Rows) (l : List ℕ) : Type 0 where
+  pub completion : Completion p at b l
   pub affords : Affords p (rows .used) (rows .may) (rows .left) l
 
 -- v gives the bound slots among those of the set their words
@@ -36,13 +30,13 @@ abbrev pub AgreesOn : List ℕ → ℕ → (ℕ → ℕ) → Type 0
 AgreesOn b set v = (x : ℕ) → Has set x → (getD b x 0 ≡ 0 → ⊥) → v x ≡ getD b x 0
 
 -- A failure tells its reasons, a set of slots: no v that agrees with b on them has a completion that the rows allow. If it was not short of rows, not even with more left.
-pub record Failed (p : Task) (at : ℕ) (b : List ℕ) (from : ℕ) (rows : Rows) (why : Reasons) : Type 0 where
-  pub never : (v : ℕ → ℕ) (l : List ℕ) → AgreesOn b (why .slots) v → FromOn from l → Completes p (goals p - at) at v l → Open p (rows .used) (rows .may) l → (why .short ≡ true → Affords p (rows .used) (rows .may) (rows .left) l) → ⊥
+pub record Failed (p : Task) (at : ℕ) (b : List ℕ) (rows : Rows) (why : Reasons) : Type 0 where
+  pub never : (v : ℕ → ℕ) (l : List ℕ) → AgreesOn b (why .slots) v → Completes p (goals p - at) at v l → Open p (rows .used) (rows .may) l → (why .short ≡ true → Affords p (rows .used) (rows .may) (rows .left) l) → ⊥
 
-pub record Answer (p : Task) (at : ℕ) (b : List ℕ) (from : ℕ) (rows : Rows) (r : Placed) : Type 0 where
-  pub found : r .ok ≡ true → (l : List ℕ) × (r .ks ≡ laid at l) × First (Afforded p at b from rows) (ListBefore _<_) l
-  pub none : r .ok ≡ false → Failed p at b from rows (r .why)
+pub record Answer (p : Task) (at : ℕ) (b : List ℕ) (rows : Rows) (r : Placed) : Type 0 where
+  pub found : r .ok ≡ true → (l : List ℕ) × (r .ks ≡ laid at l) × First (Afforded p at b rows) (ListBefore _<_) l
+  pub none : r .ok ≡ false → Failed p at b rows (r .why)
 
 -- Without reasons, and with every row in use: the first completion's places, or that there is none.
-abbrev pub PlacesFrom : Task → ℕ → List ℕ → ℕ → Places → Type 0
-PlacesFrom p at b from = FirstOf (Completion p at b from) at
+abbrev pub PlacesFrom : Task → ℕ → List ℕ → Places → Type 0
+PlacesFrom p at b = FirstOf (Completion p at b) at

@@ -81,4 +81,4 @@ abbrev pub vainly : ℕ → Bool → Outlook
 vainly slots short = record { vain = true; why = record { slots = slots; short = short } }
 
 pub record Outlooks (p : Task) (at : ℕ) (b : List ℕ) (rows : Rows) (r : Outlook) : Type 0 where
-  pub vain : r .vain ≡ true → (from : ℕ) → Failed p at b from rows (r .why)
+  pub vain : r .vain ≡ true → Failed p at b rows (r .why)

@@ -84,19 +84,19 @@ fn noted(set: u64, x: u64) -> u64
 }
 
 // Where a use has ended, the next one's own variables are not bound.
-pub fn opened(g: [u64; 64], last: u8) -> [u64; 64]
-    ensures { λ h. ⌜ Opened last g h ⌝ }
+// (That a lent array is as long as its type says is no fact that the kit gives, so it is asked for.)
+pub fn opened(g: &mut [u64; 64], last: u8)
+    requires { ⌜ length (now g) ≡ 64 ⌝ }
+    ensures { λ _. ⌜ Opened last (now (g .entry)) (now (g .exit)) ⌝ }
 {
-    let mut h = g;
     if last == 0 {
-        return h;
+        return;
     }
     let mut x: usize = 32;
     while x < 64 {
-        h[x] = 0;
+        g[x] = 0;
         x += 1;
     }
-    h
 }
 
 fn rows_of(used: u64, may: u64, left: usize) -> Rows
@@ -250,7 +250,7 @@ fn none(why: Reasons) -> Placed
     }
 }
 
-// The first places, in order, of the source subgoals from `at` on, that of `at` being `from` or a later one.
+// The first places, in order, of the source subgoals from `at` on.
 // The loops over targets and terms stand in one function, so that the exit at the first unlike term is seen.
 fn place(
     source: &[u64],
@@ -259,23 +259,23 @@ fn place(
     target: &[u64],
     own: &[u8],
     at: usize,
-    b: [u64; 64],
-    from: usize,
+    b: &[u64; 64],
     rows: Rows,
 ) -> Placed
     requires { ⌜ Sized (posed (now source) (now widths) (now lasts) (now target) (now own)) ⌝ }
     requires { ⌜ at ≤ length (now widths) ⌝ }
-    ensures { λ r. ⌜ Answer (posed (now (source .entry)) (now (widths .entry)) (now (lasts .entry)) (now (target .entry)) (now (own .entry))) at b from rows r ⌝ }
+    requires { ⌜ length (now b) ≡ 64 ⌝ }
+    ensures { λ r. ⌜ Answer (posed (now (source .entry)) (now (widths .entry)) (now (lasts .entry)) (now (target .entry)) (now (own .entry))) at (now (b .entry)) rows r ⌝ }
 {
     if widths.len() <= at {
         return whole();
     }
-    let seen = outlook::look(source, widths, lasts, target, own, at, &b, rows);
+    let seen = outlook::look(source, widths, lasts, target, own, at, b, rows);
     if seen.vain {
         return none(seen.why);
     }
     let mut why = no_reasons();
-    'candidates: for k in from..own.len() {
+    'candidates: for k in 0..own.len() {
         if target[9 * k] != source[9 * at] {
             continue 'candidates;
         }
@@ -284,7 +284,8 @@ fn place(
             why = shorted(why, e.allowed);
             continue 'candidates;
         }
-        let mut g = b;
+        let kept = b; // the kit takes a loop that copies a parameter by its own name for one that changes it
+        let mut g = *kept;
         let mut new: u64 = 0;
         for a in 0..width(widths[at]) {
             let x = source[9 * at + 1 + a];
@@ -298,8 +299,8 @@ fn place(
                 continue 'candidates;
             }
         }
-        let h = opened(g, lasts[at]);
-        let below = place(source, widths, lasts, target, own, at + 1, h, 0, e.rows);
+        opened(&mut g, lasts[at]);
+        let below = place(source, widths, lasts, target, own, at + 1, &g, e.rows);
         let r = carried(below, at, k, lasts[at]);
         if settled(r.ok, r.why, new, e.free) {
             return r;
@@ -318,14 +319,13 @@ pub fn places_from(
     own: &[u8],
     at: usize,
     b: [u64; 64],
-    from: usize,
 ) -> Places
     requires { ⌜ Sized (posed (now source) (now widths) (now lasts) (now target) (now own)) ⌝ }
     requires { ⌜ at ≤ length (now widths) ⌝ }
-    ensures { λ r. ⌜ PlacesFrom (posed (now (source .entry)) (now (widths .entry)) (now (lasts .entry)) (now (target .entry)) (now (own .entry))) at b from r ⌝ }
+    ensures { λ r. ⌜ PlacesFrom (posed (now (source .entry)) (now (widths .entry)) (now (lasts .entry)) (now (target .entry)) (now (own .entry))) at b r ⌝ }
 {
     let rows = rows_of(18446744073709551615, 0, 0);
-    let r = place(source, widths, lasts, target, own, at, b, from, rows);
+    let r = place(source, widths, lasts, target, own, at, &b, rows);
     if r.ok {
         let ks = r.ks;
         return Places { ok: true, ks };
@@ -348,7 +348,7 @@ pub fn first_places(
     requires { ⌜ Sized (posed (now source) (now widths) (now lasts) (now target) (now own)) ⌝ }
     ensures { λ r. ⌜ FirstPlaces (posed (now (source .entry)) (now (widths .entry)) (now (lasts .entry)) (now (target .entry)) (now (own .entry))) b r ⌝ }
 {
-    places_from(source, widths, lasts, target, own, 0, b, 0)
+    places_from(source, widths, lasts, target, own, 0, b)
 }
 
 // Whether some mapping's targets lie in the rows in use and at most `left` of those that may be taken.
@@ -367,6 +367,6 @@ pub fn enough(
     ensures { λ r. ⌜ Enough (posed (now (source .entry)) (now (widths .entry)) (now (lasts .entry)) (now (target .entry)) (now (own .entry))) b used may left r ⌝ }
 {
     let rows = rows_of(used, may, left);
-    let r = place(source, widths, lasts, target, own, 0, b, 0, rows);
+    let r = place(source, widths, lasts, target, own, 0, &b, rows);
     r.ok
 }

@@ -1,7 +1,7 @@
 -- Some row begins with given places exactly if the body has places where their terms are bound.
 use mathlib.Core.Path.{_≡_, refl, ap, _∙_}
 use mathlib.Core.Bool.{Bool, true, false}
-use mathlib.Core.List.{List, [], _∷_, _++_}
+use mathlib.Core.List.{List, _++_}
 use Prim.Native.Nat.{ℕ, _+_, _*_, _-_, _<_, _≤_}
 use native.Mathlib.Omega.{arith}
 use lib.ListN.{length, getD, take, drop, length-append, length-drop, List·getD-append}
@@ -9,17 +9,13 @@ use lib.Seq.{length-take-le, getD-take}
 use Rattle.frame.specs.Lists.{choices}
 use Rattle.words.specs.Order.{ListBefore, First}
 use Rattle.placing.specs.Task.{Task, goals, targets}
-use Rattle.placing.specs.Answer.{FromOn, Completion, PlacesFrom}
+use Rattle.placing.specs.Answer.{Completion, PlacesFrom}
 use Rattle.placing.specs.declared.Places.{Places}
 use Rattle.rows.specs.RowPlaces.{RowFront, OnTargets, Begins}
 use Rattle.rows.specs.Steps.{fixing, InReach}
 use Rattle.rows.proofs.OneUse.{Stands, StandFrom, stand-at, stand-drop, stand-join, completes-stand, stand-completes, stand-mapped}
 use Rattle.rows.proofs.Fixing.{AgreeTo, fixing-forced, fixing-fits}
 use Rattle.rows.proofs.RowFronts.{values, whole-long, whole-stands, row-stands}
-
-from-any : (l : List ℕ) → FromOn 0 l
-from-any [] = tt
-from-any (k ∷ l) = omega arith
 
 module _ (p : Task) (h j : ℕ) (ks : List ℕ) (long : length ks ≡ 96) (on : OnTargets p h j ks) where
   pub in-reach : InReach (p .target) ks j
@@ -35,11 +31,10 @@ module _ (p : Task) (h j : ℕ) (ks : List ℕ) (long : length ks ≡ 96) (on : 
   kept-long = length-take-le j ks (omega (arith, on .few, on .task .short))
 
   -- the body's places in a row that begins so complete the bindings
-  completion : (f : RowFront p h (take j ks)) → Completion p h bound 0 (drop h ((take j ks ++ f .more) ++ f .row .rest))
+  completion : (f : RowFront p h (take j ks)) → Completion p h bound (drop h ((take j ks ++ f .more) ++ f .row .rest))
   completion f = record {
     val = v;
     extends = fixing-forced p ks j (λ i l. on .task .single i (omega (arith, on .few))) v agree;
-    fromOn = from-any (drop h whole);
     completes = stand-completes p (on .task .oneUse) (goals p - h) h v (drop h whole) (length-drop h whole ∙ ap (λ n. n - h) (whole-long p h (on .task) js (f .row))) (stand-drop p v h whole (whole-stands p h (on .task) js (f .row)));
   }
     where
@@ -55,7 +50,7 @@ module _ (p : Task) (h j : ℕ) (ks : List ℕ) (long : length ks ≡ 96) (on : 
       agree : AgreeTo p j ks v
       agree i l = rw (List·getD-append (take j ks) (f .more) 0 i (omega (arith, kept-long)), getD-take j ks i 0 l) at (row-stands p h (on .task) js (f .row) i (omega (arith, on .few)) .agrees)
 
-  module _ (r : Places) (answer : PlacesFrom p h bound 0 r) where
+  module _ (r : Places) (answer : PlacesFrom p h bound r) where
     -- the places are those bound, then what the body's values give the head's other places, then the body's
     front : r .ok ≡ true → RowFront p h (take j ks)
     front ok = record {
@@ -71,7 +66,7 @@ module _ (p : Task) (h j : ℕ) (ks : List ℕ) (long : length ks ≡ 96) (on : 
         l : List ℕ
         l = answer .found ok .0
 
-        first : First (Completion p h bound 0) (ListBefore _<_) l
+        first : First (Completion p h bound) (ListBefore _<_) l
         first = answer .found ok .2
 
         v : ℕ → ℕ

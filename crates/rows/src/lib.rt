@@ -93,7 +93,7 @@ fn row_begins(
     ensures { λ r. ⌜ Begins (posed (now (source .entry)) (now (widths .entry)) (now (lasts .entry)) (now (target .entry)) (now (own .entry))) head j ks r ⌝ }
 {
     let g = fixed(source, target, j, ks);
-    let r = places_from(source, widths, lasts, target, own, head, g, 0);
+    let r = places_from(source, widths, lasts, target, own, head, g);
     r.ok
 }
 

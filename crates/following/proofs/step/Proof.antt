@@ -192,17 +192,22 @@ loop-again c =
 
 shared-slice-read-opened : tie.Need-shared-slice-read-opened Inv-loop μ-loop
 shared-slice-read-opened c =
-    let w = c .before .before .before .before .before .before .before .before .before .before .before .before .before .before .pre in
+    let w = c .before .before .before .before .before .before .before .before .before .before .before .before .before .before .before .pre in
     omega (arith, w .0 .lasts, w .1)
+
+opened-requires : tie.Need-opened-requires Inv-loop μ-loop
+opened-requires c κs =
+    let l = c .before .before .before .loop in
+    l .inv .1 .guess .long
 
 returns-4 : tie.Need-returns-4 Inv-loop μ-loop
 returns-4 c =
     let opened = c .opened in
-    let loop-test = c .before .before .loop-test in
-    let l = c .before .before .before .loop in
-    let width = c .before .before .before .before .width in
-    let if2 = c .before .before .before .before .before .before .if2 in
-    let if1 = c .before .before .before .before .before .before .before .before .before .if1 in
+    let loop-test = c .before .before .before .loop-test in
+    let l = c .before .before .before .before .loop in
+    let width = c .before .before .before .before .before .width in
+    let if2 = c .before .before .before .before .before .before .before .if2 in
+    let if1 = c .before .before .before .before .before .before .before .before .before .before .if1 in
     leads-on _ _ _ _ (l .a) (l .g) _ (l .inv .1) (omega (arith, width .ensures .0, l .inv .0)) (omega (arith, width .ensures .0, loop-test .left)) (if1 .left) (if2 .left) (opened .ensures)
 
 pub step-spec : {M : Type 1} → statement M
@@ -241,5 +246,5 @@ step-spec =
     (λ c. search needs)
     loop-again
     shared-slice-read-opened
-    (λ c κs. search needs)
+    opened-requires
     returns-4)

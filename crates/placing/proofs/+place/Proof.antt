@@ -35,28 +35,28 @@ use Rattle.placing.proofs.+place.{statement}
 use Rattle.placing.proofs.+place.Tie.{close}
 
 -- the number of subgoals still unplaced falls
-abbrev μ-place : Measures 5 place-kinds.ps ℕ
+abbrev μ-place : Measures 6 place-kinds.ps ℕ
 μ-place κs a = length (a .1 .0 .now) - a .1 .1 .1 .1 .1 .0
 
-abbrev place-at : ℕ → In 5 place-kinds.ps
-place-at t = and 5 place-kinds.ps (is 5 place-kinds.ps μ-place t) place.Pre
+abbrev place-at : ℕ → In 6 place-kinds.ps
+place-at t = and 6 place-kinds.ps (is 6 place-kinds.ps μ-place t) place.Pre
 
-abbrev place-below : ℕ → In 5 place-kinds.ps
-place-below t = and 5 place-kinds.ps (falls 5 place-kinds.ps _<_ μ-place t) place.Pre
+abbrev place-below : ℕ → In 6 place-kinds.ps
+place-below t = and 6 place-kinds.ps (falls 6 place-kinds.ps _<_ μ-place t) place.Pre
 
 -- the terms so far agree
 abbrev place-Inv-loop : place-lts.InvT-loop
-place-Inv-loop source widths lasts target own at from rows b why₀ k₀ e g₀ new₀ a₀ k-end a-end why k g new a = (a ≤ a-end) × (why ≡ why₀) × (k ≡ k₀) × Guess (posed source widths lasts target own) b at k₀ a g new
+place-Inv-loop source widths lasts target own at b rows why₀ k₀ e g₀ new₀ a₀ k-end a-end why k g new a = (a ≤ a-end) × (why ≡ why₀) × (k ≡ k₀) × Guess (posed source widths lasts target own) b at k₀ a g new
 
 abbrev place-μ-loop : place-lts.MeasureT-loop
-place-μ-loop source widths lasts target own at from rows b why₀ k₀ e g₀ new₀ a₀ k-end a-end why k g new a = a-end - a
+place-μ-loop source widths lasts target own at b rows why₀ k₀ e g₀ new₀ a₀ k-end a-end why k g new a = a-end - a
 
 -- the targets so far are refuted
 abbrev place-Inv-candidates : place-lts.InvT-candidates
-place-Inv-candidates source widths lasts target own at from rows b why₀ k₀ k-end why k = (from ≤ k) × Refuted (posed source widths lasts target own) at b from rows why k
+place-Inv-candidates source widths lasts target own at b rows why₀ k₀ k-end why k = Refuted (posed source widths lasts target own) at b rows why k
 
 abbrev place-μ-candidates : place-lts.MeasureT-candidates
-place-μ-candidates source widths lasts target own at from rows b why₀ k₀ k-end why k = k-end - k
+place-μ-candidates source widths lasts target own at b rows why₀ k₀ k-end why k = k-end - k
 
 -- st is where the function starts, cd where a target is taken up, lp where a term is
 pub +place-spec : {M : Type 1} → statement M
@@ -74,16 +74,16 @@ pub +place-spec : {M : Type 1} → statement M
     (λ c κs. search needs)
     -- returns
     (λ c. let st = c .before .before .before .before .before .before .before in
-    rw (c .whole .ensures) (answer-end _ _ _ _ _ (c .before .if1 .taken) (omega (arith, st .pre .1 .0 .few, st .pre .1 .1))))
+    rw (c .whole .ensures) (answer-end _ _ _ _ (c .before .if1 .taken) (omega (arith, st .pre .1 .0 .few, st .pre .1 .1 .0))))
     -- look-requires
-    (λ c κs. let st = c .before .before .before .before .before .before .before in
+    (λ c κs. let st = c .before .before .before .before .before .before in
     st .pre .1 .0)
     (λ c κs. search needs)
     -- returns-2
-    (λ c. rw (c .none .ensures) (answer-vain _ _ _ _ _ _ (c .before .before .look .ensures) (c .before .if2 .taken)))
+    (λ c. rw (c .none .ensures) (answer-vain _ _ _ _ _ (c .before .before .look .ensures) (c .before .if2 .taken)))
     (λ c κs. search needs)
     -- candidates-holds
-    (λ c. (omega arith, refuted-start _ _ _ _ _ _))
+    (λ c. refuted-start _ _ _ _ _)
     (λ c. search needs)
     (λ c. search needs)
     (λ c. search needs)
@@ -94,63 +94,63 @@ pub +place-spec : {M : Type 1} → statement M
     (λ c. search needs)
     -- candidates-again
     (λ c. let cd = c .before .before .before .before in
-    (omega (arith, cd .candidates .inv .0), refuted-relation _ _ _ _ _ _ _ (c .if3 .taken) (cd .candidates .inv .1)))
+    refuted-relation _ _ _ _ _ _ (c .if3 .taken) (cd .candidates .inv))
     (λ c. search needs)
     -- enters-requires
     (λ c κs. let cd = c .before .before .before .before .before in
-    let st = cd .before .before .before .before .before .before .before .before .before .before .before in
+    let st = cd .before .before .before .before .before .before .before .before .before .before in
     st .pre .1 .0 .rows (cd .candidates .k))
     (λ c κs. search needs)
     -- add-k-2
-    (λ c. let st = c .before .before .before .before .before .before .before .before .before .before .before .before .before .before .before .before .before .before .before .before in
+    (λ c. let st = c .before .before .before .before .before .before .before .before .before .before .before .before .before .before .before .before .before .before .before in
     omega (arith, st .pre .1 .0 .many, c .before .before .before .before .before .before .before .before .candidates-test .taken))
     (λ c. search needs)
     -- candidates-again-2
     (λ c. let cd = c .before .before .before .before .before .before .before .before .before in
-    (omega (arith, cd .candidates .inv .0), rw (c .shorted .ensures) (refuted-row _ _ _ _ _ _ _ (c .before .before .before .enters .ensures) _ (not-true _ (c .before .if4 .taken)) (cd .candidates .inv .1))))
+    rw (c .shorted .ensures) (refuted-row _ _ _ _ _ _ (c .before .before .before .enters .ensures) _ (not-true _ (c .before .if4 .taken)) (cd .candidates .inv)))
     (λ c. search needs)
     -- width-requires
     (λ c κs. let st = c .before .before .before .before .before .before .before .before .before .before .before .before .before .before .before .before .before .before .before .before in
     st .pre .1 .0 .widths (st .args .at))
     -- loop-holds
     (λ c. let st = c .before .before .before .before .before .before .before .before .before .before .before .before .before .before .before .before .before .before .before .before .before in
-    (omega arith, refl, refl, guess-start _ _ _ _ (search (needs, st .good))))
+    (omega arith, refl, refl, guess-start _ _ _ _ (st .pre .1 .1 .1)))
     -- mul-x
-    (λ c. let cd = c .before .before .before .before .before .before .before .before .before .before .before .before in
-    let st = cd .before .before .before .before .before .before .before .before .before .before .before in
-    omega (arith, st .pre .1 .0 .few, cd .before .before .before .before .before .if1 .left, c .before .before .width .ensures .1, c .loop-test .taken))
-    -- add-x
-    (λ c. let cd = c .before .before .before .before .before .before .before .before .before .before .before .before in
-    let st = cd .before .before .before .before .before .before .before .before .before .before .before in
-    omega (arith, st .pre .1 .0 .few, cd .before .before .before .before .before .if1 .left, c .before .before .width .ensures .1, c .loop-test .taken))
-    -- add-x-2
-    (λ c. let cd = c .before .before .before .before .before .before .before .before .before .before .before .before in
-    let st = cd .before .before .before .before .before .before .before .before .before .before .before in
-    omega (arith, st .pre .1 .0 .few, cd .before .before .before .before .before .if1 .left, c .before .before .width .ensures .1, c .loop-test .taken))
-    -- mul-x-2
-    (λ c. let cd = c .before .before .before .before .before .before .before .before .before .before .before .before in
-    let st = cd .before .before .before .before .before .before .before .before .before .before .before in
-    omega (arith, st .pre .1 .0 .few, cd .before .before .before .before .before .if1 .left, c .before .before .width .ensures .1, c .loop-test .taken))
-    -- shared-slice-read-x
     (λ c. let cd = c .before .before .before .before .before .before .before .before .before .before .before .before .before in
-    let st = cd .before .before .before .before .before .before .before .before .before .before .before in
-    omega (arith, st .pre .1 .0 .source, cd .before .before .before .before .before .if1 .left, c .before .before .before .width .ensures .1, c .before .loop-test .taken))
+    let st = cd .before .before .before .before .before .before .before .before .before .before in
+    omega (arith, st .pre .1 .0 .few, cd .before .before .before .before .if1 .left, c .before .before .width .ensures .1, c .loop-test .taken))
+    -- add-x
+    (λ c. let cd = c .before .before .before .before .before .before .before .before .before .before .before .before .before in
+    let st = cd .before .before .before .before .before .before .before .before .before .before in
+    omega (arith, st .pre .1 .0 .few, cd .before .before .before .before .if1 .left, c .before .before .width .ensures .1, c .loop-test .taken))
+    -- add-x-2
+    (λ c. let cd = c .before .before .before .before .before .before .before .before .before .before .before .before .before in
+    let st = cd .before .before .before .before .before .before .before .before .before .before in
+    omega (arith, st .pre .1 .0 .few, cd .before .before .before .before .if1 .left, c .before .before .width .ensures .1, c .loop-test .taken))
+    -- mul-x-2
+    (λ c. let cd = c .before .before .before .before .before .before .before .before .before .before .before .before .before in
+    let st = cd .before .before .before .before .before .before .before .before .before .before in
+    omega (arith, st .pre .1 .0 .few, cd .before .before .before .before .if1 .left, c .before .before .width .ensures .1, c .loop-test .taken))
+    -- shared-slice-read-x
+    (λ c. let cd = c .before .before .before .before .before .before .before .before .before .before .before .before .before .before in
+    let st = cd .before .before .before .before .before .before .before .before .before .before in
+    omega (arith, st .pre .1 .0 .source, cd .before .before .before .before .if1 .left, c .before .before .before .width .ensures .1, c .before .loop-test .taken))
     -- mul-y
     (λ c. let st = c .before .before .before .before .before .before .before .before .before .before .before .before .before .before .before .before .before .before .before .before .before .before .before .before in
-    omega (arith, st .pre .1 .0 .many, c .before .before .before .before .before .before .before .before .before .before .before .before .candidates-test .taken, c .before .before .loop .inv .2, c .before .before .before .width .ensures .1, c .before .loop-test .taken))
+    omega (arith, st .pre .1 .0 .many, c .before .before .before .before .before .before .before .before .before .before .before .before .before .candidates-test .taken, c .before .before .loop .inv .2, c .before .before .before .width .ensures .1, c .before .loop-test .taken))
     -- add-y
     (λ c. let st = c .before .before .before .before .before .before .before .before .before .before .before .before .before .before .before .before .before .before .before .before .before .before .before .before in
-    omega (arith, st .pre .1 .0 .many, c .before .before .before .before .before .before .before .before .before .before .before .before .candidates-test .taken, c .before .before .loop .inv .2, c .before .before .before .width .ensures .1, c .before .loop-test .taken))
+    omega (arith, st .pre .1 .0 .many, c .before .before .before .before .before .before .before .before .before .before .before .before .before .candidates-test .taken, c .before .before .loop .inv .2, c .before .before .before .width .ensures .1, c .before .loop-test .taken))
     -- add-y-2
     (λ c. let st = c .before .before .before .before .before .before .before .before .before .before .before .before .before .before .before .before .before .before .before .before .before .before .before .before in
-    omega (arith, st .pre .1 .0 .many, c .before .before .before .before .before .before .before .before .before .before .before .before .candidates-test .taken, c .before .before .loop .inv .2, c .before .before .before .width .ensures .1, c .before .loop-test .taken))
+    omega (arith, st .pre .1 .0 .many, c .before .before .before .before .before .before .before .before .before .before .before .before .before .candidates-test .taken, c .before .before .loop .inv .2, c .before .before .before .width .ensures .1, c .before .loop-test .taken))
     -- mul-y-2
     (λ c. let st = c .before .before .before .before .before .before .before .before .before .before .before .before .before .before .before .before .before .before .before .before .before .before .before .before in
-    omega (arith, st .pre .1 .0 .many, c .before .before .before .before .before .before .before .before .before .before .before .before .candidates-test .taken, c .before .before .loop .inv .2, c .before .before .before .width .ensures .1, c .before .loop-test .taken))
+    omega (arith, st .pre .1 .0 .many, c .before .before .before .before .before .before .before .before .before .before .before .before .before .candidates-test .taken, c .before .before .loop .inv .2, c .before .before .before .width .ensures .1, c .before .loop-test .taken))
     -- shared-slice-read-y
     (λ c. let lp = c .before .before .before in
     let st = lp .before .before .before .before .before .before .before .before .before .before .before .before .before .before .before .before .before .before .before .before .before .before in
-    omega (arith, st .pre .1 .0 .target, lp .before .before .before .before .before .before .before .before .before .before .candidates-test .taken, lp .loop .inv .2, lp .before .width .ensures .1, c .before .before .loop-test .taken))
+    omega (arith, st .pre .1 .0 .target, lp .before .before .before .before .before .before .before .before .before .before .before .candidates-test .taken, lp .loop .inv .2, lp .before .width .ensures .1, c .before .before .loop-test .taken))
     (λ c κs. search needs)
     -- mul-g
     (λ c. let lp = c .before .before .before .before .before .before in
@@ -166,73 +166,73 @@ pub +place-spec : {M : Type 1} → statement M
     -- add-k-3
     (λ c. let lp = c .before .before .before .before .before .before .before .before .before in
     let st = lp .before .before .before .before .before .before .before .before .before .before .before .before .before .before .before .before .before .before .before .before .before .before in
-    omega (arith, st .pre .1 .0 .many, lp .before .before .before .before .before .before .before .before .before .before .candidates-test .taken, lp .loop .inv .2))
+    omega (arith, st .pre .1 .0 .many, lp .before .before .before .before .before .before .before .before .before .before .before .candidates-test .taken, lp .loop .inv .2))
     (λ c. search needs)
     -- candidates-again-3
     (λ c. let lp = c .before .before .before .before .before .before .before .before .before in
-    let cd = lp .before .before .before .before .before .before .before .before .before .before .before in
+    let cd = lp .before .before .before .before .before .before .before .before .before .before .before .before in
     let l = lp .loop in
     let stood = c .before .before .before .before .stands .ensures in
-    (omega (arith, cd .candidates .inv .0, l .inv .2), rw (c .blamed .ensures, l .inv .1, l .inv .2) (refuted-unlike _ _ _ _ _ _ (l .a) (l .g) (l .new) (l .inv .3) _ (omega (arith, lp .before .width .ensures .0, c .before .before .before .before .before .before .before .before .loop-test .taken)) (λ e. c .before .before .before .if5 .left (stood ∙ e)) (λ e. eqb-false _ _ (sym (c .before .before .alike .ensures) ∙ not-true _ (c .before .if6 .taken)) (stood ∙ e ∙ rw (l .inv .2))) (cd .candidates .inv .1))))
+    rw (c .blamed .ensures, l .inv .1, l .inv .2) (refuted-unlike _ _ _ _ _ (l .a) (l .g) (l .new) (l .inv .3) _ (omega (arith, lp .before .width .ensures .0, c .before .before .before .before .before .before .before .before .loop-test .taken)) (λ e. c .before .before .before .if5 .left (stood ∙ e)) (λ e. eqb-false _ _ (sym (c .before .before .alike .ensures) ∙ not-true _ (c .before .if6 .taken)) (stood ∙ e ∙ rw (l .inv .2))) (cd .candidates .inv)))
     (λ c. search needs)
     (λ c. search needs)
     -- loop-again
     (λ c. let lp = c .before .before .before .before .before .before in
-    let cd = lp .before .before .before .before .before .before .before .before .before .before .before in
-    let st = cd .before .before .before .before .before .before .before .before .before .before .before in
+    let cd = lp .before .before .before .before .before .before .before .before .before .before .before .before in
+    let st = cd .before .before .before .before .before .before .before .before .before .before in
     let l = lp .loop in
     let stood = c .before .stands .ensures in (
       omega (arith, c .before .before .before .before .before .loop-test .taken),
       l .inv .1,
       l .inv .2,
       ⊎-elim
-          (λ w. rw (w .2, w .3, w .1 .ensures, l .inv .2) (guess-new _ _ _ _ _ _ _ (l .inv .3) (sym stood ∙ w .0 .taken) (st .pre .1 .0 .solid (cd .candidates .k) (l .a) (lp .before .before .before .before .before .before .before .before .before .before .candidates-test .taken) (omega (arith, lp .before .width .ensures .1, c .before .before .before .before .before .loop-test .taken)))))
+          (λ w. rw (w .2, w .3, w .1 .ensures, ← l .inv .2) (guess-new _ _ _ _ _ _ _ (rw (← l .inv .2) at (l .inv .3)) (sym stood ∙ w .0 .taken) (st .pre .1 .0 .solid (l .k) (l .a) (omega (arith, lp .before .before .before .before .before .before .before .before .before .before .before .candidates-test .taken, l .inv .2)) (omega (arith, lp .before .width .ensures .1, c .before .before .before .before .before .loop-test .taken)))))
           (λ w. rw (w .3, w .4) (guess-same _ _ _ _ _ _ _ (l .inv .3) (λ e. w .0 .left (stood ∙ e)) (sym stood ∙ eqb-true _ _ (sym (w .1 .ensures) ∙ not-false _ (w .2 .left)) ∙ rw (l .inv .2))))
           (c .if5 .came),
     ))
     -- shared-slice-read-opened
-    (λ c. let cd = c .before .before .before .before .before .before .before .before .before .before .before .before .before in
-    let st = cd .before .before .before .before .before .before .before .before .before .before .before in
-    omega (arith, st .pre .1 .0 .lasts, cd .before .before .before .before .before .if1 .left))
+    (λ c. let cd = c .before .before .before .before .before .before .before .before .before .before .before .before .before .before .before in
+    let st = cd .before .before .before .before .before .before .before .before .before .before in
+    omega (arith, st .pre .1 .0 .lasts, cd .before .before .before .before .if1 .left))
     (λ c κs. search needs)
     -- add-place
-    (λ c. let cd = c .before .before .before .before .before .before .before .before .before .before .before .before .before .before in
-    let st = cd .before .before .before .before .before .before .before .before .before .before .before in
-    omega (arith, st .pre .1 .0 .few, cd .before .before .before .before .before .if1 .left))
-    -- place-requires
-    (λ c κs. let cd = c .before .before .before .before .before .before .before .before .before .before .before .before .before .before in
-    let st = cd .before .before .before .before .before .before .before .before .before .before .before in
-    (omega (arith, st .pre .0, cd .before .before .before .before .before .if1 .left), (st .pre .1 .0, omega (arith, cd .before .before .before .before .before .if1 .left))))
-    -- shared-slice-read-carried
     (λ c. let cd = c .before .before .before .before .before .before .before .before .before .before .before .before .before .before .before .before in
-    let st = cd .before .before .before .before .before .before .before .before .before .before .before in
-    omega (arith, st .pre .1 .0 .lasts, cd .before .before .before .before .before .if1 .left))
+    let st = cd .before .before .before .before .before .before .before .before .before .before in
+    omega (arith, st .pre .1 .0 .few, cd .before .before .before .before .if1 .left))
+    -- place-requires
+    (λ c κs. let cd = c .before .before .before .before .before .before .before .before .before .before .before .before .before .before .before .before .before in
+    let st = cd .before .before .before .before .before .before .before .before .before .before in
+    (omega (arith, st .pre .0, cd .before .before .before .before .if1 .left), (st .pre .1 .0, (omega (arith, cd .before .before .before .before .if1 .left), c .before .opened .ensures .long))))
+    -- shared-slice-read-carried
+    (λ c. let cd = c .before .before .before .before .before .before .before .before .before .before .before .before .before .before .before .before .before .before .before in
+    let st = cd .before .before .before .before .before .before .before .before .before .before in
+    omega (arith, st .pre .1 .0 .lasts, cd .before .before .before .before .if1 .left))
     -- carried-requires
-    (λ c κs. let lp = c .before .before .before .before .before in
-    let cd = lp .before .before .before .before .before .before .before .before .before .before .before in
-    let st = cd .before .before .before .before .before .before .before .before .before .before .before in
-    (omega (arith, st .pre .1 .0 .few, cd .before .before .before .before .before .if1 .left), omega (arith, st .pre .1 .0 .many, lp .before .before .before .before .before .before .before .before .before .before .candidates-test .taken, lp .loop .inv .2)))
+    (λ c κs. let lp = c .before .before .before .before .before .before .before in
+    let cd = lp .before .before .before .before .before .before .before .before .before .before .before .before in
+    let st = cd .before .before .before .before .before .before .before .before .before .before in
+    (omega (arith, st .pre .1 .0 .few, cd .before .before .before .before .if1 .left), omega (arith, st .pre .1 .0 .many, lp .before .before .before .before .before .before .before .before .before .before .before .candidates-test .taken, lp .loop .inv .2)))
     (λ c κs. search needs)
     -- returns-3
-    (λ c. let lp = c .before .before .before .before .before .before .before .before in
-    let cd = lp .before .before .before .before .before .before .before .before .before .before .before in
+    (λ c. let lp = c .before .before .before .before .before .before .before .before .before .before in
+    let cd = lp .before .before .before .before .before .before .before .before .before .before .before .before in
     let l = lp .loop in
-    let n = lp .before .before .before .before .before .enters .ensures in
-    answer-settled _ _ _ _ _ (cd .before .before .before .before .before .if1 .left) _ _ _ _ (guess-full _ _ _ _ _ _ _ _ (omega (arith, lp .before .width .ensures .0, l .inv .0)) (omega (arith, lp .before .width .ensures .0, c .before .before .before .before .before .before .before .loop-test .left)) (l .inv .3)) (c .before .before .before .before .before .opened .ensures) _ (answer-below _ _ _ _ _ _ n _ (c .before .before .before .before .place .ensures)) _ (lp .before .before .before .before .before .before .before .before .before .before .candidates-test .taken) (cd .candidates .inv .0) (lp .before .before .before .before .before .before .before .if3 .left) (n .afforded .0 (not-false _ (lp .before .before .before .if4 .left))) (cd .candidates .inv .1) _ (n .free .0) _ (rw (l .inv .2) at (c .before .before .carried .ensures)) _ (c .before .settled .ensures) (c .if7 .taken))
+    let n = lp .before .before .before .before .before .before .enters .ensures in
+    answer-settled _ _ _ _ (cd .before .before .before .before .if1 .left) _ _ _ _ (guess-full _ _ _ _ _ _ _ _ (omega (arith, lp .before .width .ensures .0, l .inv .0)) (omega (arith, lp .before .width .ensures .0, c .before .before .before .before .before .before .before .before .before .loop-test .left)) (l .inv .3)) (c .before .before .before .before .before .before .opened .ensures) _ (answer-below _ _ _ _ _ _ n _ (c .before .before .before .before .place .ensures)) _ (lp .before .before .before .before .before .before .before .before .before .before .before .candidates-test .taken) (lp .before .before .before .before .before .before .before .before .if3 .left) (n .afforded .0 (not-false _ (lp .before .before .before .before .if4 .left))) (cd .candidates .inv) _ (n .free .0) _ (rw (l .inv .2) at (c .before .before .carried .ensures)) _ (c .before .settled .ensures) (c .if7 .taken))
     (λ c κs. search needs)
     -- add-k-4
-    (λ c. let lp = c .before .before .before .before .before .before .before .before .before in
+    (λ c. let lp = c .before .before .before .before .before .before .before .before .before .before .before in
     let st = lp .before .before .before .before .before .before .before .before .before .before .before .before .before .before .before .before .before .before .before .before .before .before in
-    omega (arith, st .pre .1 .0 .many, lp .before .before .before .before .before .before .before .before .before .before .candidates-test .taken, lp .loop .inv .2))
+    omega (arith, st .pre .1 .0 .many, lp .before .before .before .before .before .before .before .before .before .before .before .candidates-test .taken, lp .loop .inv .2))
     -- candidates-less-4
-    (λ c. let lp = c .before .before .before .before .before .before .before .before .before in
-    omega (arith, lp .before .before .before .before .before .before .before .before .before .before .candidates-test .taken, lp .loop .inv .2))
+    (λ c. let lp = c .before .before .before .before .before .before .before .before .before .before .before in
+    omega (arith, lp .before .before .before .before .before .before .before .before .before .before .before .candidates-test .taken, lp .loop .inv .2))
     -- candidates-again-4
-    (λ c. let lp = c .before .before .before .before .before .before .before .before .before in
-    let cd = lp .before .before .before .before .before .before .before .before .before .before .before in
+    (λ c. let lp = c .before .before .before .before .before .before .before .before .before .before .before in
+    let cd = lp .before .before .before .before .before .before .before .before .before .before .before .before in
     let l = lp .loop in
     let q = c .before .before .before .carried .ensures in
-    (omega (arith, cd .candidates .inv .0, l .inv .2), rw (c .joined .ensures, l .inv .1, l .inv .2, q) (refuted-below _ _ _ _ _ _ _ _ _ (guess-full _ _ _ _ _ _ _ _ (omega (arith, lp .before .width .ensures .0, l .inv .0)) (omega (arith, lp .before .width .ensures .0, c .before .before .before .before .before .before .before .before .loop-test .left)) (l .inv .3)) (c .before .before .before .before .before .before .opened .ensures) _ ((answer-below _ _ _ _ _ _ (lp .before .before .before .before .before .enters .ensures) _ (c .before .before .before .before .before .place .ensures)) .none (unsettled _ _ _ _ _ (rw q at (c .before .before .settled .ensures)) (c .before .if7 .left))) _ (cd .candidates .inv .1))))
+    rw (c .joined .ensures, l .inv .1, l .inv .2, q) (refuted-below _ _ _ _ _ _ _ _ (guess-full _ _ _ _ _ _ _ _ (omega (arith, lp .before .width .ensures .0, l .inv .0)) (omega (arith, lp .before .width .ensures .0, c .before .before .before .before .before .before .before .before .before .before .loop-test .left)) (l .inv .3)) (c .before .before .before .before .before .before .before .opened .ensures) _ ((answer-below _ _ _ _ _ _ (lp .before .before .before .before .before .before .enters .ensures) _ (c .before .before .before .before .before .place .ensures)) .none (unsettled _ _ _ _ _ (rw q at (c .before .before .settled .ensures)) (c .before .if7 .left))) _ (cd .candidates .inv)))
     (λ c κs. search needs)
     -- returns-4
-    (λ c. rw (c .none2 .ensures) (answer-none _ _ _ _ _ (c .before .before .before .before .before .before .before .if1 .left) _ _ (c .before .candidates-test .left) (c .before .before .candidates .inv .1)))
+    (λ c. rw (c .none2 .ensures) (answer-none _ _ _ _ (c .before .before .before .before .before .before .if1 .left) _ _ (c .before .candidates-test .left) (c .before .before .candidates .inv)))

@@ -5,10 +5,10 @@ use Rattle.placing.proofs.opened.Statement.{statement}
 use Rattle.placing.proofs.opened.Tie as tie
 
 abbrev Inv-loop : tie.InvT-loop
-Inv-loop last h₀ x₀ h x = Cleared h₀ h x
+Inv-loop g₀ last x₀ g x = Cleared g₀ g x
 
 abbrev μ-loop : tie.MeasureT-loop
-μ-loop last h₀ x₀ h x = 64 - x
+μ-loop g₀ last x₀ g x = 64 - x
 
 pub opened-spec : {M : Type 1} → statement M
 opened-spec =
@@ -17,9 +17,9 @@ opened-spec =
     Inv-loop
     μ-loop
     -- returns
-    (λ c. clear-none _ _ (search needs) (c .if1 .taken))
+    (λ c. clear-none _ _ (c .before .pre) (c .if1 .taken))
     -- loop-holds
-    (λ c. clear-start _ (search needs))
+    (λ c. clear-start _ (c .before .pre))
     (λ c. search needs)
     (λ c. search needs)
     (λ c. search needs)
