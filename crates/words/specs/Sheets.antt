@@ -1,4 +1,5 @@
--- The proved sheets: one table under one statement. Answers are those of the specification; witnesses not told there are worked out by hand.
+-- The sheets by their values: one table under one statement, on which crate sheets builds the table from bytes. Answers are those of the specification;
+-- witnesses not told there are worked out by hand.
 use mathlib.Core.Path.{_≡_, refl}
 use mathlib.Core.Option.{Option, some, none}
 use mathlib.Core.List.{List, [], _∷_, map}
@@ -86,7 +87,7 @@ wrongC = at1 (1 ∷ 1 ∷ 1 ∷ 1 ∷ 1 ∷ 1 ∷ []) (over (0 ∷ 1 ∷ 2 ∷ 3
 abbrev wrongD : Book
 wrongD = at1 (2 ∷ []) (rule (x0 ∷ []) (on 0 (x0 ∷ con 0 ∷ []) ∷ [])) (rule (x0 ∷ []) (on 0 (x0 ∷ x0 ∷ []) ∷ []) ∷ [])
 
-pub sheets : List Sheet
+unfoldable pub sheets : List Sheet
 sheets =
     accepts (bookA 4294967289) (on 1 (x0 ∷ x1 ∷ []) ∷ on 2 (x1 ∷ con 7 ∷ []) ∷ []) (1 ∷ 1 ∷ 2 ∷ 1 ∷ []) (1 ∷ 2 ∷ [])
     ∷ accepts (bookA 4294967290) (on 3 (x0 ∷ con 7 ∷ []) ∷ []) (1 ∷ 1 ∷ 1 ∷ 2 ∷ []) (1 ∷ 2 ∷ [])

@@ -1,0 +1,30 @@
+-- Whether two leads are the same, as a test.
+use mathlib.Core.Path.{_≡_, refl, ap}
+use mathlib.Core.Bool.{Bool, true, false}
+use lib.IntN.{ℤ, pos, negsuc}
+use lib.Dec.{T, eqb, eqb→eq}
+use Rattle.words.specs.Refresh.{Lead, ahead, tie}
+
+abbrev sameWhole : ℤ → ℤ → Bool
+sameWhole (pos a) (pos b) = eqb a b
+sameWhole (pos a) (negsuc b) = false
+sameWhole (negsuc a) (pos b) = false
+sameWhole (negsuc a) (negsuc b) = eqb a b
+
+whole-sound : (a b : ℤ) → T (sameWhole a b) → a ≡ b
+whole-sound (pos a) (pos b) h = ap pos (eqb→eq a b h)
+whole-sound (pos a) (negsuc b) h = absurd h
+whole-sound (negsuc a) (pos b) h = absurd h
+whole-sound (negsuc a) (negsuc b) h = ap negsuc (eqb→eq a b h)
+
+abbrev pub sameLead : Lead → Lead → Bool
+sameLead (ahead a) (ahead b) = sameWhole a b
+sameLead (ahead a) tie = false
+sameLead tie (ahead b) = false
+sameLead tie tie = true
+
+pub lead-sound : (l k : Lead) → T (sameLead l k) → l ≡ k
+lead-sound (ahead a) (ahead b) h = ap ahead (whole-sound a b h)
+lead-sound (ahead a) tie h = absurd h
+lead-sound tie (ahead b) h = absurd h
+lead-sound tie tie h = refl

@@ -1,0 +1,24 @@
+-- The statement of the table: what every sheet says comes true.
+use lib.Dec.{T}
+use Rattle.words.specs.Words.{_∈_}
+use Rattle.words.specs.Refresh.{admitted}
+use Rattle.words.specs.Tests.{every, every-sound}
+use Rattle.words.specs.Sheets as values
+use Rattle.layout.specs.Numbers.{numberAt}
+use Rattle.layout.specs.BookLayout.{bookBytes, contentsEnd, entries}
+use Rattle.layout.specs.Contents.{count}
+use Rattle.layout.specs.Refusals.{longest}
+use Rattle.promise.specs.Table.{mostRows}
+use Rattle.sheets.specs.Sheet.{Sheet, ComesTrue}
+use Rattle.sheets.specs.Books.{bookA, bookASecond, path, star, pair, apart, eight, nine, noSummaries}
+use Rattle.sheets.specs.SourceBooks.{example41, carLocPart, withoutV4, withoutV2V4}
+use Rattle.sheets.specs.WrongBooks.{wrongA, wrongB, wrongC, wrongD}
+use Rattle.sheets.specs.Sheets.{sheets}
+use Rattle.sheets.proofs.Tried.{tried, tried-sound}
+
+all-tried : T (every tried sheets)
+unfolding sheets bookA bookASecond path star pair apart eight nine noSummaries example41 carLocPart withoutV4 withoutV2V4 wrongA wrongB wrongC wrongD values.sheets admitted bookBytes contentsEnd entries count numberAt longest mostRows
+all-tried = tt
+
+pub proved : (s : Sheet) → s ∈ sheets → ComesTrue s
+proved s m = tried-sound s (every-sound tried sheets all-tried s m)

@@ -1,0 +1,5 @@
+pub mod Sheet
+pub mod Books
+pub mod SourceBooks
+pub mod WrongBooks
+pub mod Sheets
