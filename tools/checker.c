@@ -21,6 +21,11 @@ enum { WORDS = 9, SUBGOALS = 12, BACK = 96 };
 enum { VARIABLE = 1, CONSTANT = 2, HIDDEN = 3 };
 
 struct goals { int count; word of[BACK * WORDS]; };
+struct expanded { /* starts[u] is where use u begins in the expansion, and the one past the last where all end */
+    const uint8_t *book;
+    struct goals question, expansion;
+    int uses, starts[SUBGOALS + 1];
+};
 struct bindings { word of[64]; }; /* 0 to 31: the rule's variables; 32 to 63: those hidden in the current use */
 
 static word coded(int tag, word n) { return (word)tag << 32 | n; }
@@ -55,26 +60,34 @@ static void add_use(const uint8_t *book, const uint8_t *summary, const uint8_t *
 }
 
 /* The expansion of a rewriting that is one whole rule over admitted summaries, with the question's head;
-   starts[u] is where use u begins, and the one past the last where all end. Answers 0 if it is none. */
-static int expand(const uint8_t *book, const uint8_t *rewriting, size_t length, struct goals *out, int *starts) {
-    const uint8_t *question = body_of(book, 1);
+   answers 0 if it is none. */
+static int expand(struct expanded *e, const uint8_t *rewriting, size_t length) {
+    const uint8_t *book = e->book, *question = body_of(book, 1);
     size_t at = 2 + 5 * question[0];
     uint32_t seen = 0;
     if (length < at || rewriting[0] != question[0] || rewriting[1] < 1 || rewriting[1] > SUBGOALS) return 0;
     if (memcmp(rewriting + 2, question + 2, at - 2) != 0) return 0;
-    out->count = 0;
-    for (int u = 0; u < rewriting[1]; u++) {
+    e->uses = rewriting[1];
+    e->expansion.count = 0;
+    for (int u = 0; u < e->uses; u++) {
         if (at >= length || rewriting[at] < 1 || rewriting[at] > book[0]) return 0;
         int i = rewriting[at] + 1;
         if (stamp_of(book, i) - stamp_of(book, 1) >= 0x80000000) return 0; /* left out */
         const uint8_t *summary = body_of(book, i), *given = rewriting + at + 1;
         at = terms(rewriting, length, at + 1, summary[0], &seen);
         if (at == 0) return 0;
-        starts[u] = out->count;
-        add_use(book, summary, given, u, out);
+        e->starts[u] = e->expansion.count;
+        add_use(book, summary, given, u, &e->expansion);
     }
-    starts[rewriting[1]] = out->count;
+    e->starts[e->uses] = e->expansion.count;
     return at == length;
+}
+
+static void add_question(struct expanded *e) {
+    word itself[32];
+    for (int x = 0; x < 32; x++) itself[x] = coded(VARIABLE, x);
+    e->question.count = 0;
+    add_goals(body_of(e->book, 1), body_of(e->book, 0), itself, &e->question);
 }
 
 /* ---- the two mappings */
@@ -105,41 +118,37 @@ static int send(const word *goal, const word *target, const uint8_t *arity, stru
     return 1;
 }
 
-static int goes_there(const uint8_t *book, const struct goals *question, const struct goals *expansion, const int *starts, int uses, const uint8_t *pairs) {
-    struct bindings b = of_head(body_of(book, 1));
-    for (int i = 0; i < question->count; i++, pairs += 2) {
+static int goes_there(const struct expanded *e, const uint8_t *pairs) {
+    struct bindings b = of_head(body_of(e->book, 1));
+    for (int i = 0; i < e->question.count; i++, pairs += 2) {
         int use = pairs[0] - 1, within = pairs[1] - 1;
-        if (use < 0 || use >= uses || within < 0 || within >= starts[use + 1] - starts[use]) return 0;
-        if (!send(question->of + WORDS * i, expansion->of + WORDS * (starts[use] + within), body_of(book, 0), &b)) return 0;
+        if (use < 0 || use >= e->uses || within < 0 || within >= e->starts[use + 1] - e->starts[use]) return 0;
+        const word *target = e->expansion.of + WORDS * (e->starts[use] + within);
+        if (!send(e->question.of + WORDS * i, target, body_of(e->book, 0), &b)) return 0;
     }
     return 1;
 }
 
-static int comes_back(const uint8_t *book, const struct goals *question, const struct goals *expansion, const int *starts, int uses, const uint8_t *places) {
-    struct bindings b = of_head(body_of(book, 1));
-    for (int u = 0; u < uses; u++) {
+static int comes_back(const struct expanded *e, const uint8_t *places) {
+    struct bindings b = of_head(body_of(e->book, 1));
+    for (int u = 0; u < e->uses; u++) {
         memset(b.of + 32, 0, sizeof(word) * 32);
-        for (int i = starts[u]; i < starts[u + 1]; i++) {
+        for (int i = e->starts[u]; i < e->starts[u + 1]; i++) {
             int place = places[i] - 1;
-            if (place < 0 || place >= question->count) return 0;
-            if (!send(expansion->of + WORDS * i, question->of + WORDS * place, body_of(book, 0), &b)) return 0;
+            if (place < 0 || place >= e->question.count) return 0;
+            if (!send(e->expansion.of + WORDS * i, e->question.of + WORDS * place, body_of(e->book, 0), &b)) return 0;
         }
     }
     return 1;
 }
 
-static int check(const uint8_t *book, size_t length, const uint8_t *rewriting, size_t rewriting_length, const uint8_t *witness, size_t witness_length) {
-    struct goals question, expansion;
-    int starts[SUBGOALS + 1];
-    word itself[32];
-    if (read_book(book, length).number != 0) return 0;
-    if (!expand(book, rewriting, rewriting_length, &expansion, starts)) return 0;
-    for (int x = 0; x < 32; x++) itself[x] = coded(VARIABLE, x);
-    question.count = 0;
-    add_goals(body_of(book, 1), body_of(book, 0), itself, &question);
-    if (witness_length != (size_t)(2 * question.count + expansion.count)) return 0;
-    return goes_there(book, &question, &expansion, starts, rewriting[1], witness)
-        && comes_back(book, &question, &expansion, starts, rewriting[1], witness + 2 * question.count);
+static int check(const uint8_t *book, size_t n, const uint8_t *rewriting, size_t k, const uint8_t *witness, size_t m) {
+    struct expanded e;
+    e.book = book;
+    if (read_book(book, n).number != 0 || !expand(&e, rewriting, k)) return 0;
+    add_question(&e);
+    if (m != (size_t)(2 * e.question.count + e.expansion.count)) return 0;
+    return goes_there(&e, witness) && comes_back(&e, witness + 2 * e.question.count);
 }
 
 /* ---- the stream */

@@ -9,6 +9,7 @@ are 1 unless said.
 import os
 import sys
 
+import largest
 from book import book, layout, rule, rule_bytes, triple_stream
 
 CASES = []
@@ -145,23 +146,12 @@ ONE = whole([1], "() from 0(X0)", "(A) from 0(A)")
 for count, answer in ((12, "yes"), (13, "no")):
     case(answer, ONE, "() from " + ", ".join(["1(X0)"] * count), witness_of("12.1", " ".join(["1"] * count)))
 
-EIGHT, HIDDEN = "(A,B,C,D,E,F,G,H)", "(I,J,K,L,M,N,O,P)"
-
-
-def largest_summary(i):
-    """Shows relation i, and hides seven more."""
-    return EIGHT + " from %d%s, " % (i, EIGHT) + ", ".join("%d%s" % ((i + h) % 12, HIDDEN) for h in range(1, 8))
-
-
-LARGEST = whole([8] * 32, EIGHT + " from " + ", ".join("%d%s" % (i, EIGHT) for i in range(12)), *(largest_summary(s % 12) for s in range(64)))
-PLACES = [(i + h) % 12 + 1 for i in range(12) for h in range(8)]
-for last, answer in ((PLACES[95], "yes"), (PLACES[94], "no")):
-    case(answer, LARGEST, EIGHT + " from " + ", ".join("%d%s" % (i + 1 + 12 * (i % 5), EIGHT) for i in range(12)),
-         witness_of(" ".join("%d.1" % (i + 1) for i in range(12)), " ".join(map(str, PLACES[:95] + [last]))))
-assert [len(p) for p in CASES[-1][1]] == [25040, 534, 120]
-case("no", LARGEST + b"\0", CASES[-2][1][1], CASES[-2][1][2])
-case("no", LARGEST, CASES[-3][1][1] + b"\0", CASES[-3][1][2])
-case("no", LARGEST, CASES[-4][1][1], CASES[-4][1][2] + b"\0")
+longest = largest.triple(largest.BOOK, 1)
+assert [len(part) for part in longest] == [25040, 534, 120]
+case("yes", *longest)
+case("no", *longest[:2], longest[2][:-1] + bytes([largest.BACK[-1] + 1]))
+for which in range(3):
+    case("no", *(part + b"\0" * (i == which) for i, part in enumerate(longest)))
 
 # ---- the book must load, the summaries that have no say with it
 
@@ -170,8 +160,8 @@ case("no", A[:-1], as_bytes(ANSWER), WITNESS)
 case("no", A + b"\0", as_bytes(ANSWER), WITNESS)
 case("no", b"", b"", b"")
 case("no", layout([b"\1"] + [rule_bytes(rule("() from 0(X0)"))] * 66, [0] + [1] * 66), "() from 1()", b"\1\1\1")
-for stamp, summary, answer in ((0, "(A) from 0(A)", "yes"), (0, "(B) from 0(A)", "no"), (0, "(7) from 0(A)", "no"), (0, "(A,A) from 0(A)", "no"), (0, "(A) from 1(A)", "no")):
-    case(answer, book([1], 1, "(X0) from 0(X0)", [(1, "(A) from 0(A)"), (stamp, summary)]), "(X0) from 1(X0)", b"\1\1\1")
+for answer, left_out in (("yes", "(A) from 0(A)"), ("no", "(B) from 0(A)"), ("no", "(7) from 0(A)"), ("no", "(A,A) from 0(A)"), ("no", "(A) from 1(A)")):
+    case(answer, book([1], 1, "(X0) from 0(X0)", [(1, "(A) from 0(A)"), (0, left_out)]), "(X0) from 1(X0)", b"\1\1\1")
 case("no", layout([b"\1", rule_bytes(rule("(X0) from 0(X0)")), rule_bytes(rule("(A) from 0(A)"))], [1, 1, 1]), "(X0) from 1(X0)", b"\1\1\1")
 
 

@@ -20,8 +20,8 @@ fn take(room: &mut [u8], size: u64) -> usize
     n
 }
 
-// Checks once more. Each time another byte stands past the longest book, on which no answer depends,
-// so that no compiler can take all the checks for one.
+// Checks once more. Each time another byte stands where only a book that is too long reaches, so that
+// no compiler can take all the checks for one; and no answer depends on it.
 fn check_again(book: &mut [u8], n: usize, rewriting: &[u8], witness: &[u8], turn: u64) -> bool
     requires { ⌜ (length (now book) ≡ 25041) × (n ≤ 25041) ⌝ }
 {
