@@ -104,6 +104,11 @@ def unstream(data):
     return out
 
 
+def triple_stream(triples):
+    """Many triples of book, rewriting and witness, each after its three lengths: what `judge many` takes."""
+    return b"".join(struct.pack("<III", *map(len, parts)) + b"".join(parts) for parts in triples)
+
+
 def is_admitted(need, stamp):
     return (stamp - need) % 2 ** 32 < 2 ** 31
 

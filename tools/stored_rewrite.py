@@ -8,6 +8,7 @@ witnesses that it does not tell are worked out by hand. The need and all stamps 
 import os
 import sys
 
+import largest
 from book import book, layout, rule, rule_bytes, stream
 
 CASES = []
@@ -134,16 +135,8 @@ back 1
 
 # ---- the largest answer and the longest witness, 534 and 120 bytes: summary i shows relation i, and hides seven more
 
-SHOWN, HIDDEN = "(A,B,C,D,E,F,G,H)", "(I,J,K,L,M,N,O,P)"
-
-
-def largest_summary(i):
-    return SHOWN + " from %d%s, " % (i, SHOWN) + ", ".join("%d%s" % ((i + h) % 12, HIDDEN) for h in range(1, 8))
-
-
 case(listing(12, ["%d v0 v1 v2 v3 v4 v5 v6 v7" % (i + 1) for i in range(12)],
-             " ".join("%d.1" % (i + 1) for i in range(12)), " ".join("%d" % ((i + h) % 12 + 1) for i in range(12) for h in range(8))),
-     whole([8] * 12, SHOWN + " from " + ", ".join("%d%s" % (i, SHOWN) for i in range(12)), *map(largest_summary, range(12))))
+             " ".join("%d.%d" % pair for pair in largest.THERE), " ".join(map(str, largest.BACK))), largest.book_of(12, 12))
 
 # ---- terms: an empty head, the largest constant, a constant in the question's head
 

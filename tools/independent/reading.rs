@@ -91,14 +91,14 @@ impl<'a> Bytes<'a> {
         (0..count).map(|_| self.term()).collect()
     }
 
-    fn rule(&mut self, arities: &[u8], most_subgoals: usize) -> Option<Rule> {
+    fn rule(&mut self, most_subgoals: usize, width: impl Fn(usize) -> Option<usize>) -> Option<Rule> {
         let head_length = self.byte_from(0, 8)?;
         let subgoals = self.byte_from(1, most_subgoals)?;
         let head = self.terms(head_length)?;
         let mut body = Vec::new();
         for _ in 0..subgoals {
-            let relation = self.byte_from(0, arities.len() - 1)?;
-            body.push(Subgoal { relation, terms: self.terms(arities[relation] as usize)? });
+            let relation = self.byte_from(0, 255)?;
+            body.push(Subgoal { relation, terms: self.terms(width(relation)?)? });
         }
         if self.0.is_empty() {
             Some(Rule { head, body })
@@ -106,6 +106,12 @@ impl<'a> Bytes<'a> {
             None
         }
     }
+}
+
+/// A whole rule, or None where it breaks the layout. `width` says of a relation's number how many terms
+/// its subgoals have, and None where there is no such relation.
+pub fn read_rule(body: &[u8], most_subgoals: usize, width: impl Fn(usize) -> Option<usize>) -> Option<Rule> {
+    Bytes(body).rule(most_subgoals, width)
 }
 
 fn is_safe(rule: &Rule) -> bool {
@@ -126,7 +132,8 @@ pub fn read_book(book: &[u8]) -> Result<Book, Refusal> {
     let mut rules = Vec::new();
     for place in 1..entries.len() {
         let most_subgoals = if place == 1 { 12 } else { 8 };
-        let rule = Bytes(entries[place].body).rule(arities, most_subgoals).ok_or((6, place))?;
+        let arity = |relation: usize| arities.get(relation).map(|a| *a as usize);
+        let rule = read_rule(entries[place].body, most_subgoals, arity).ok_or((6, place))?;
         if !is_safe(&rule) {
             return Err((7, place));
         }

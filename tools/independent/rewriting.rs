@@ -61,29 +61,29 @@ pub fn lead(need: u32, stamp: u32) -> Lead {
     }
 }
 
-fn is_admitted(need: u32, stamp: u32) -> bool {
+pub fn is_admitted(need: u32, stamp: u32) -> bool {
     matches!(lead(need, stamp), Lead::Ahead(by) if by >= 0)
 }
 
 /// A term of an expansion: one of the rewriting's own, or a fresh variable of a use (from 0).
 #[derive(Clone, Copy, PartialEq, Eq, PartialOrd, Ord)]
-enum Wide {
+pub enum Wide {
     Own(Term),
     Fresh(usize, u32),
 }
 
 /// A subgoal over terms of any kind.
 #[derive(Clone)]
-struct Goal<T> {
-    relation: usize,
-    terms: Vec<T>,
+pub struct Goal<T> {
+    pub relation: usize,
+    pub terms: Vec<T>,
 }
 
 fn plain(body: &[Subgoal]) -> Vec<Goal<Term>> {
     body.iter().map(|g| Goal { relation: g.relation, terms: g.terms.clone() }).collect()
 }
 
-fn wide(body: &[Subgoal]) -> Vec<Goal<Wide>> {
+pub fn wide(body: &[Subgoal]) -> Vec<Goal<Wide>> {
     body.iter().map(|g| Goal { relation: g.relation, terms: g.terms.iter().map(|t| Wide::Own(*t)).collect() }).collect()
 }
 
@@ -217,7 +217,7 @@ fn rows_of(summary: &Rule, question: &Rule) -> BTreeSet<Vec<Term>> {
 }
 
 /// The expansion of a list of rows, use by use.
-fn expansion(book: &Book, rows: &[Row]) -> Vec<Vec<Goal<Wide>>> {
+pub fn expansion(book: &Book, rows: &[Row]) -> Vec<Vec<Goal<Wide>>> {
     let one_use = |(used, (number, terms)): (usize, &Row)| {
         let rule = &book.summaries[number - 1].1;
         let becomes = |t: &Term| match (t, rule.head.iter().position(|h| h == t)) {
