@@ -1,0 +1,1 @@
+// No code: theorems of the two public functions, `rewriter::rewrite` and `checker::check`.
