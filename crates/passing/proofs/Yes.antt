@@ -28,9 +28,9 @@ yes-same c = let t = c .exactly .0 refl in record { value = t .value; sound = t 
 
 -- "For an equivalent rewriting of 1 to 12 subgoals over admitted summaries, within the layout, some witness passes; for others none does."
 module _ {book : List ℕ} (b : Book) (sound : SoundBook book b) (r : Rule ℕ) (is : RewritingRule b r) where
-  pub some-passes : Equivalent (admittedOf b) (b .question) r → (witness : List ℕ) × ({answer : Bool} → Checks book (ruleBytes r) witness answer → answer ≡ true)
-  some-passes e = let w = witness-for b sound r is e in (w .0, λ c. c .exactly .1 (w .1))
+  pub some-passes : Equivalent (admittedOf b) (b .question) r → (witness : List ℕ) × ((answer : Bool) → Checks book (ruleBytes r) witness answer → answer ≡ true)
+  some-passes e = let w = witness-for b sound r is e in (w .0, λ answer c. c .exactly .1 (w .1))
 
-  pub none-passes : (Equivalent (admittedOf b) (b .question) r → ⊥) → (witness : List ℕ) {answer : Bool} → Checks book (ruleBytes r) witness answer → answer ≡ false
-  none-passes no witness {false} c = refl
-  none-passes no witness {true} c = absurd (no (passes-only b sound r is witness (c .exactly .0 refl)))
+  pub none-passes : (Equivalent (admittedOf b) (b .question) r → ⊥) → (witness : List ℕ) (answer : Bool) → Checks book (ruleBytes r) witness answer → answer ≡ false
+  none-passes never witness false c = refl
+  none-passes never witness true c = absurd (never (passes-only b sound r is witness (c .exactly .0 refl)))
