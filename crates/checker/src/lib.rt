@@ -26,12 +26,12 @@ fn confirms(book: &[u8], rows: &[u64], k: usize, witness: &[u8]) -> bool
 {
     let middle = 2 * question_goals(book);
     if witness.len() < middle {
-        return false;
+        return false; // too short for the way there
     }
-    if goes_there(book, rows, k, &witness[..middle]) {
-        return comes_back(book, rows, k, &witness[middle..]);
+    if !goes_there(book, rows, k, &witness[..middle]) {
+        return false; // no mapping there
     }
-    false
+    comes_back(book, rows, k, &witness[middle..])
 }
 
 // Over a sound book.
@@ -41,7 +41,7 @@ fn check_sound(book: &[u8], rewriting: &[u8], witness: &[u8]) -> bool
 {
     let proposal = propose(book, rewriting);
     if proposal.count == 0 {
-        return false;
+        return false; // no rewriting of this book's question
     }
     let words = proposal.words;
     confirms(book, &words, proposal.count, witness)

@@ -1,5 +1,5 @@
 -- The pass: the places from the source subgoal i on complete what is bound there exactly if all of them are those of a mapping.
-use mathlib.Core.Bool.{true, false, true≢false, false≢true}
+use mathlib.Core.Bool.{Bool, true, false, true≢false, false≢true}
 use mathlib.Core.Path.{_≡_, refl, ap, sym, _∙_}
 use mathlib.Core.List.{List, [], _∷_}
 use Prim.Native.Nat.{ℕ, zero, suc, _+_, _-_, _<_, _≤_}
@@ -14,7 +14,6 @@ use Rattle.placing.proofs.Onward.{step, stepped}
 use Rattle.placing.proofs.Chain.{completion-mapped, mapped-completion}
 use Rattle.following.specs.Follows.{Follows}
 use Rattle.following.specs.Leads.{Passed, Leads}
-use Rattle.following.specs.declared.Next.{Next}
 
 pub record Going (p : Task) (b ks : List ℕ) (i : ℕ) (g : List ℕ) : Type 0 where
   pub far : i ≤ goals p
@@ -58,20 +57,20 @@ module _ (p : Task) (b ks : List ℕ) where
           let on : s .ks ≡ slice (suc i) (goals p) ks = sym (ap (drop 1) (sym cons ∙ s .is)) in
           record { w = s .w; within = rw here at (s .within); agrees = rw here at (s .agrees); linked = s .linked; rest = rw on at (s .rest) }
 
-      module _ (r : Next) (s : Leads p g i (getD ks i 0) r) where
-        pub going-never : r .ok ≡ false → Follows p b ks false
+      module _ (r : Bool) (h : List ℕ) (s : Leads p g i (getD ks i 0) r h) where
+        pub going-never : r ≡ false → Follows p b ks false
         going-never n = record { exactly = ((λ e. absurd (false≢true e)), λ m. let d = c .to m in let o = goes (d .val) (d .completes) in absurd (s .never n (o .within) (d .val) (d .extends) (o .agrees))) }
 
-        pub going-more : r .ok ≡ true → Going p b ks (i + 1) (r .bound)
+        pub going-more : r ≡ true → Going p b ks (i + 1) h
         going-more y = rw (add-one i) (record { far = omega arith; to = to; back = back })
           where
-            to : Mapped p b (take (goals p) ks) → Completion p (suc i) (r .bound) (slice (suc i) (goals p) ks)
+            to : Mapped p b (take (goals p) ks) → Completion p (suc i) h (slice (suc i) (goals p) ks)
             to m =
                 let d = c .to m in
                 let o = goes (d .val) (d .completes) in
                 record { val = o .w; extends = s .passed y .after (d .val) (o .w) (d .extends) (o .agrees) (o .linked); completes = o .rest }
 
-            back : Completion p (suc i) (r .bound) (slice (suc i) (goals p) ks) → Mapped p b (take (goals p) ks)
+            back : Completion p (suc i) h (slice (suc i) (goals p) ks) → Mapped p b (take (goals p) ks)
             back d =
                 let u = s .passed y .over (d .val) (d .extends) in
                 c .back (rw cons (record { val = u .0; extends = u .1; completes = stepped p i more (getD ks i 0) (u .0) (d .val) (slice (suc i) (goals p) ks) (s .passed y .within) (u .2) (u .3) (d .completes) }))

@@ -11,18 +11,11 @@ use Rattle.placing.proofs.Slots.{stood-value}
 use Rattle.placing.proofs.Guess.{Guess, guess-known, guess-start, guess-same, guess-new, guess-full}
 use Rattle.placing.proofs.Onward.{after, over}
 use Rattle.following.specs.Leads.{Leads}
-use Rattle.following.specs.declared.Next.{Next}
 
 -- the bindings after the first a terms; which slots are new need not be told, since nothing is tried again
 pub record Guessed (p : Task) (b : List ℕ) (i k a : ℕ) (g : List ℕ) : Type 0 where
   pub new : ℕ
   pub guess : Guess p b i k a g new
-
-abbrev pub refused : List ℕ → Next
-refused b = record { ok = false; bound = b }
-
-abbrev pub going : List ℕ → Next
-going h = record { ok = true; bound = h }
 
 module _ (p : Task) (b : List ℕ) (i k : ℕ) where
   pub guessed-start : length b ≡ 64 → Guessed p b i k 0 b
@@ -35,25 +28,25 @@ module _ (p : Task) (b : List ℕ) (i k : ℕ) where
     pub guessed-new : stood g (sourceTerm p i a) ≡ 0 → (targetTerm p k a ≡ 0 → ⊥) → Guessed p b i k (a + 1) (set g (sourceTerm p i a) (targetTerm p k a))
     guessed-new f s = record { new = noting (c .new) (sourceTerm p i a); guess = guess-new p b i k a g (c .new) (c .guess) f s }
 
-  fails : (b′ : List ℕ) → (k < targets p → (v : ℕ → ℕ) → Extends b v → Agrees p v i k → ⊥) → Leads p b i k (refused b′)
+  fails : (b′ : List ℕ) → (k < targets p → (v : ℕ → ℕ) → Extends b v → Agrees p v i k → ⊥) → Leads p b i k false b′
   fails b′ f = record { passed = λ e. absurd (false≢true e); never = λ e. f }
 
   -- there is no such target
-  pub leads-beyond : targets p ≤ k → Leads p b i k (refused b)
-  leads-beyond h = fails b (λ l. absurd (omega arith))
+  pub leads-beyond : {h : List ℕ} → targets p ≤ k → Leads p b i k false h
+  leads-beyond {h} o = fails h (λ l. absurd (omega arith))
 
-  pub leads-relation : (targetRelation p k ≡ sourceRelation p i → ⊥) → Leads p b i k (refused b)
-  leads-relation f = fails b (λ l v e a. f (a .relation))
+  pub leads-relation : {h : List ℕ} → (targetRelation p k ≡ sourceRelation p i → ⊥) → Leads p b i k false h
+  leads-relation {h} f = fails h (λ l v e a. f (a .relation))
 
   -- a term that stands for another word than the target's
-  pub leads-unlike : (a : ℕ) (g : List ℕ) → Guessed p b i k a g → a < widthOf p i → (stood g (sourceTerm p i a) ≡ 0 → ⊥) → (stood g (sourceTerm p i a) ≡ targetTerm p k a → ⊥) → Leads p b i k (refused b)
-  leads-unlike a g c h n f = fails b (λ l v e y. f (sym (stood-value g v (sourceTerm p i a) (guess-known p b i k a g (c .new) (c .guess) v (sourceTerm p i a) (λ j o. y .terms j (omega arith)) (e (sourceTerm p i a))) n) ∙ y .terms a h))
+  pub leads-unlike : (a : ℕ) (g h : List ℕ) → Guessed p b i k a g → a < widthOf p i → (stood g (sourceTerm p i a) ≡ 0 → ⊥) → (stood g (sourceTerm p i a) ≡ targetTerm p k a → ⊥) → Leads p b i k false h
+  leads-unlike a g h c o n f = fails h (λ l v e y. f (sym (stood-value g v (sourceTerm p i a) (guess-known p b i k a g (c .new) (c .guess) v (sourceTerm p i a) (λ j z. y .terms j (omega arith)) (e (sourceTerm p i a))) n) ∙ y .terms a o))
 
   -- every term is put on the target's
-  pub leads-on : (a : ℕ) (g h : List ℕ) → Guessed p b i k a g → a ≤ widthOf p i → widthOf p i ≤ a → k < targets p → targetRelation p k ≡ sourceRelation p i → Opened (lastOf p i) g h → Leads p b i k (going h)
+  pub leads-on : (a : ℕ) (g h : List ℕ) → Guessed p b i k a g → a ≤ widthOf p i → widthOf p i ≤ a → k < targets p → targetRelation p k ≡ sourceRelation p i → Opened (lastOf p i) g h → Leads p b i k true h
   leads-on a g h c y z l r o =
       let w = guess-full p b i k a g (c .new) (widthOf p i) y z (c .guess) in
       record {
-        passed = λ e. record { within = l; after = after p i b k g h (c .new) w o; over = over p i b k g h (c .new) w o r };
+        passed = λ e. record { within = l; long = o .long; after = after p i b k g h (c .new) w o; over = over p i b k g h (c .new) w o r };
         never = λ e. absurd (true≢false e);
       }

@@ -10,12 +10,6 @@ use placing::opened;
 use placing::stands;
 use placing::width;
 
-// Whether a source subgoal becomes its target, and then what is bound for the next one.
-struct Next {
-    ok: bool,
-    bound: [u64; 64],
-}
-
 // A place as an index.
 fn wide(k: u16) -> usize
     ensures { λ r. ⌜ r ≡ k ⌝ }
@@ -23,7 +17,7 @@ fn wide(k: u16) -> usize
     k as usize
 }
 
-// The source subgoal i is put on the target k.
+// Whether the source subgoal i becomes the target k. If so, g then has what is bound for the next one; nothing is tried again, so no copy is kept.
 fn step(
     source: &[u64],
     widths: &[u8],
@@ -32,40 +26,31 @@ fn step(
     own: &[u8],
     i: usize,
     k: usize,
-    b: [u64; 64],
-) -> Next
+    g: &mut [u64; 64],
+) -> bool
     requires { ⌜ Sized (posed (now source) (now widths) (now lasts) (now target) (now own)) ⌝ }
     requires { ⌜ i < length (now widths) ⌝ }
-    ensures { λ r. ⌜ Leads (posed (now (source .entry)) (now (widths .entry)) (now (lasts .entry)) (now (target .entry)) (now (own .entry))) b i k r ⌝ }
+    requires { ⌜ length (now g) ≡ 64 ⌝ }
+    ensures { λ r. ⌜ Leads (posed (now (source .entry)) (now (widths .entry)) (now (lasts .entry)) (now (target .entry)) (now (own .entry))) (now (g .entry)) i k r (now (g .exit)) ⌝ }
 {
     if own.len() <= k {
-        return Next {
-            ok: false,
-            bound: b,
-        };
+        return false; // there is no such target
     }
     if target[9 * k] != source[9 * i] {
-        return Next {
-            ok: false,
-            bound: b,
-        };
+        return false; // another relation
     }
-    let mut g = b;
     for a in 0..width(widths[i]) {
         let x = source[9 * i + 1 + a];
         let y = target[9 * k + 1 + a];
-        let have = stands(&g, x);
+        let have = stands(g, x);
         if have == 0 {
             g[x as usize] = y;
         } else if !alike(have, y) {
-            return Next {
-                ok: false,
-                bound: b,
-            };
+            return false; // an unlike term
         }
     }
-    opened(&mut g, lasts[i]);
-    Next { ok: true, bound: g }
+    opened(g, lasts[i]);
+    true
 }
 
 // The pass itself, over a copy of the places: an array by value is known to have its length.
@@ -83,12 +68,9 @@ fn passes(
 {
     let mut g = b;
     for i in 0..widths.len() {
-        let next = step(source, widths, lasts, target, own, i, wide(ks[i]), g);
-        if !next.ok {
-            return false;
+        if !step(source, widths, lasts, target, own, i, wide(ks[i]), &mut g) {
+            return false; // a place that does not fit
         }
-        let h = next.bound;
-        g = h;
     }
     true
 }

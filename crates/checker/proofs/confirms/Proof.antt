@@ -1,3 +1,4 @@
+use borrow.Author.Tests.{not-true, not-false}
 use mathlib.Core.Path.{sym}
 use native.Mathlib.Omega.{arith}
 use lib.Seq.{length-take-le}
@@ -33,25 +34,25 @@ goes-there-requires c κs =
     let w = c .before .before .before .before .before .before .pre in
     w
 
+returns-2 : tie.Need-returns-2
+returns-2 c =
+    let if2 = c .if2 in
+    let goes-there = c .before .goes-there in
+    let question-goals = c .before .before .before .before .question-goals in
+    not-there (question-goals .ensures) (goes-there .ensures) (not-true _ (if2 .taken))
+
 comes-back-requires : tie.Need-comes-back-requires
 comes-back-requires c κs =
     let w = c .before .before .before .before .before .before .before .before .before .pre in
     w
 
-returns-2 : tie.Need-returns-2
-returns-2 c =
+returns-3 : tie.Need-returns-3
+returns-3 c =
     let comes-back = c .comes-back in
     let if2 = c .before .before .if2 in
     let goes-there = c .before .before .before .goes-there in
     let question-goals = c .before .before .before .before .before .before .question-goals in
-    both-parts (question-goals .ensures) (goes-there .ensures) (if2 .taken) (comes-back .ensures)
-
-returns-3 : tie.Need-returns-3
-returns-3 c =
-    let if2 = c .if2 in
-    let goes-there = c .before .goes-there in
-    let question-goals = c .before .before .before .before .question-goals in
-    not-there (question-goals .ensures) (goes-there .ensures) (if2 .left)
+    both-parts (question-goals .ensures) (goes-there .ensures) (not-false _ (if2 .left)) (comes-back .ensures)
 
 pub confirms-spec : {M : Type 1} → statement M
 confirms-spec =
@@ -62,9 +63,9 @@ confirms-spec =
     returns
     slice-aggregate-goes-there
     goes-there-requires
+    returns-2
     (λ c. search needs)
     (λ c. search needs)
     (λ c. search needs)
     comes-back-requires
-    returns-2
     returns-3)

@@ -1,4 +1,6 @@
 use borrow.Author.Needs.{needs}
+use mathlib.Core.Path.{_≡_}
+use lib.ListN.{length}
 use Prim.Native.Nat.{_-_}
 use native.Mathlib.Omega.{arith}
 use borrow.Author.Tests.{not-true, not-false}
@@ -7,15 +9,16 @@ use Rattle.following.proofs.Going.{Going, going-start, going-end, going
 use Rattle.following.proofs.passes.Statement.{statement}
 use Rattle.following.proofs.passes.Tie as tie
 
--- the rest completes what is bound so far
 abbrev Inv-loop : tie.InvT-loop
-Inv-loop source widths lasts target own ks g₀ i₀ i-end g i = Going (posed source widths lasts target own) g₀ ks i g
+Inv-loop source widths lasts target own ks g₀ i₀ i-end g i = Going (posed source widths lasts target own) g₀ ks i g × (length g ≡ 64)
 
 abbrev μ-loop : tie.MeasureT-loop
 μ-loop source widths lasts target own ks g₀ i₀ i-end g i = i-end - i
 
 loop-holds : tie.Need-loop-holds Inv-loop μ-loop
-loop-holds c = going-start _ _ _
+loop-holds c =
+    let good = c .before .before .before .before .before .good in
+    (going-start _ _ _, search (needs, good .1 .1 .1 .1 .1))
 
 mul-wide : tie.Need-mul-wide Inv-loop μ-loop
 mul-wide c =
@@ -31,43 +34,44 @@ array-read-wide c =
 
 step-requires : tie.Need-step-requires Inv-loop μ-loop
 step-requires c κs =
-    let loop-test = c .before .loop-test in
-    let w = c .before .before .before .before .before .before .before .before .pre in
-    (w, omega (arith, loop-test .taken))
+    let loop-test = c .before .before .loop-test in
+    let l = c .before .before .before .loop in
+    let w = c .before .before .before .before .before .before .before .before .before .pre in
+    (w, (omega (arith, loop-test .taken), l .inv .1))
 
 returns : tie.Need-returns Inv-loop μ-loop
 returns c =
     let if1 = c .if1 in
-    let step = c .before .before .step in
+    let step = c .before .step in
     let wide = c .before .before .before .wide in
     let loop-test = c .before .before .before .before .loop-test in
     let l = c .before .before .before .before .before .loop in
     let good = c .before .before .before .before .before .before .before .before .before .before .before .good in
     let w = c .before .before .before .before .before .before .before .before .before .before .before .pre in
-    going-never _ _ _ _ _ (l .inv) (search (needs, good .1 .1 .1 .1 .1 .1)) (w .few) (omega (arith, loop-test .taken)) _ (rw (wide .ensures) at (step .ensures)) (not-true _ (if1 .taken))
+    going-never _ _ _ _ _ (l .inv .0) (search (needs, good .1 .1 .1 .1 .1 .1)) (w .few) (omega (arith, loop-test .taken)) _ _ (rw (wide .ensures) at (step .ensures)) (not-true _ (if1 .taken))
 
 add-i : tie.Need-add-i Inv-loop μ-loop
 add-i c =
-    let loop-test = c .before .before .before .before .before .loop-test in
-    let w = c .before .before .before .before .before .before .before .before .before .before .before .before .pre in
+    let loop-test = c .before .before .before .before .loop-test in
+    let w = c .before .before .before .before .before .before .before .before .before .before .before .pre in
     omega (arith, w .few, loop-test .taken)
 
 loop-again : tie.Need-loop-again Inv-loop μ-loop
 loop-again c =
-    let if1 = c .before .if1 in
-    let step = c .before .before .before .step in
-    let wide = c .before .before .before .before .wide in
-    let loop-test = c .before .before .before .before .before .loop-test in
-    let l = c .before .before .before .before .before .before .loop in
-    let good = c .before .before .before .before .before .before .before .before .before .before .before .before .good in
-    let w = c .before .before .before .before .before .before .before .before .before .before .before .before .pre in
-    going-more _ _ _ _ _ (l .inv) (search (needs, good .1 .1 .1 .1 .1 .1)) (w .few) (omega (arith, loop-test .taken)) _ (rw (wide .ensures) at (step .ensures)) (not-false _ (if1 .left))
+    let if1 = c .if1 in
+    let step = c .before .step in
+    let wide = c .before .before .before .wide in
+    let loop-test = c .before .before .before .before .loop-test in
+    let l = c .before .before .before .before .before .loop in
+    let good = c .before .before .before .before .before .before .before .before .before .before .before .good in
+    let w = c .before .before .before .before .before .before .before .before .before .before .before .pre in
+    let s = rw (wide .ensures) at (step .ensures) in let y = not-false _ (if1 .left) in (going-more _ _ _ _ _ (l .inv .0) (search (needs, good .1 .1 .1 .1 .1 .1)) (w .few) (omega (arith, loop-test .taken)) _ _ s y, s .passed y .long)
 
 returns-2 : tie.Need-returns-2 Inv-loop μ-loop
 returns-2 c =
     let loop-test = c .loop-test in
     let l = c .before .loop in
-    going-end _ _ _ _ _ (l .inv) (omega (arith, loop-test .left))
+    going-end _ _ _ _ _ (l .inv .0) (omega (arith, loop-test .left))
 
 pub passes-spec : {M : Type 1} → statement M
 passes-spec =

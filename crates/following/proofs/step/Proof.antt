@@ -11,12 +11,11 @@ use Rattle.following.proofs.Stepping.{Guessed, guessed-start, guessed-s
 use Rattle.following.proofs.step.Statement.{statement}
 use Rattle.following.proofs.step.Tie as tie
 
--- the terms so far agree
 abbrev Inv-loop : tie.InvT-loop
-Inv-loop source widths lasts target own i k b g₀ a₀ a-end g a = (a ≤ a-end) × Guessed (posed source widths lasts target own) b i k a g
+Inv-loop source widths lasts target own i k g₀ a₀ a-end g a = (a ≤ a-end) × Guessed (posed source widths lasts target own) g₀ i k a g
 
 abbrev μ-loop : tie.MeasureT-loop
-μ-loop source widths lasts target own i k b g₀ a₀ a-end g a = a-end - a
+μ-loop source widths lasts target own i k g₀ a₀ a-end g a = a-end - a
 
 returns : tie.Need-returns Inv-loop μ-loop
 returns c =
@@ -44,17 +43,17 @@ shared-slice-read-if2 c =
 mul-if2-3 : tie.Need-mul-if2-3 Inv-loop μ-loop
 mul-if2-3 c =
     let w = c .before .before .before .before .before .before .before .pre in
-    omega (arith, w .0 .few, w .1)
+    omega (arith, w .0 .few, w .1 .0)
 
 mul-if2-4 : tie.Need-mul-if2-4 Inv-loop μ-loop
 mul-if2-4 c =
     let w = c .before .before .before .before .before .before .before .pre in
-    omega (arith, w .0 .few, w .1)
+    omega (arith, w .0 .few, w .1 .0)
 
 shared-slice-read-if2-2 : tie.Need-shared-slice-read-if2-2 Inv-loop μ-loop
 shared-slice-read-if2-2 c =
     let w = c .before .before .before .before .before .before .before .before .pre in
-    omega (arith, w .0 .source, w .1)
+    omega (arith, w .0 .source, w .1 .0)
 
 returns-2 : tie.Need-returns-2 Inv-loop μ-loop
 returns-2 c =
@@ -69,42 +68,43 @@ width-requires c κs =
 
 loop-holds : tie.Need-loop-holds Inv-loop μ-loop
 loop-holds c =
-    (omega arith, guessed-start _ _ _ _ (search needs))
+    let w = c .before .before .before .before .before .before .before .before .before .before .before .pre in
+    (omega arith, guessed-start _ _ _ _ (w .1 .1))
 
 mul-x : tie.Need-mul-x Inv-loop μ-loop
 mul-x c =
     let loop-test = c .loop-test in
     let width = c .before .before .width in
     let w = c .before .before .before .before .before .before .before .before .before .before .before .before .before .pre in
-    omega (arith, w .0 .few, w .1, width .ensures .1, loop-test .taken)
+    omega (arith, w .0 .few, w .1 .0, width .ensures .1, loop-test .taken)
 
 add-x : tie.Need-add-x Inv-loop μ-loop
 add-x c =
     let loop-test = c .loop-test in
     let width = c .before .before .width in
     let w = c .before .before .before .before .before .before .before .before .before .before .before .before .before .pre in
-    omega (arith, w .0 .few, w .1, width .ensures .1, loop-test .taken)
+    omega (arith, w .0 .few, w .1 .0, width .ensures .1, loop-test .taken)
 
 add-x-2 : tie.Need-add-x-2 Inv-loop μ-loop
 add-x-2 c =
     let loop-test = c .loop-test in
     let width = c .before .before .width in
     let w = c .before .before .before .before .before .before .before .before .before .before .before .before .before .pre in
-    omega (arith, w .0 .few, w .1, width .ensures .1, loop-test .taken)
+    omega (arith, w .0 .few, w .1 .0, width .ensures .1, loop-test .taken)
 
 mul-x-2 : tie.Need-mul-x-2 Inv-loop μ-loop
 mul-x-2 c =
     let loop-test = c .loop-test in
     let width = c .before .before .width in
     let w = c .before .before .before .before .before .before .before .before .before .before .before .before .before .pre in
-    omega (arith, w .0 .few, w .1, width .ensures .1, loop-test .taken)
+    omega (arith, w .0 .few, w .1 .0, width .ensures .1, loop-test .taken)
 
 shared-slice-read-x : tie.Need-shared-slice-read-x Inv-loop μ-loop
 shared-slice-read-x c =
     let loop-test = c .before .loop-test in
     let width = c .before .before .before .width in
     let w = c .before .before .before .before .before .before .before .before .before .before .before .before .before .before .pre in
-    omega (arith, w .0 .source, w .1, width .ensures .1, loop-test .taken)
+    omega (arith, w .0 .source, w .1 .0, width .ensures .1, loop-test .taken)
 
 mul-y : tie.Need-mul-y Inv-loop μ-loop
 mul-y c =
@@ -154,8 +154,8 @@ mul-g c =
     let a = c .before .before .before .before .before .before .before .before .before .before .before .before .before .before .before .before .before .before .args in
     omega (arith, stood-none (l .g) (getD (a .source .now) (9 * a .i + 1 + l .a) 0) (sym (stands .ensures) ∙ if3 .taken))
 
-array-write-g : tie.Need-array-write-g Inv-loop μ-loop
-array-write-g c =
+element-write-g : tie.Need-element-write-g Inv-loop μ-loop
+element-write-g c =
     let if3 = c .if3 in
     let stands = c .before .stands in
     let l = c .before .before .before .before .before .before .loop in
@@ -171,7 +171,7 @@ returns-3 c =
     let loop-test = c .before .before .before .before .before .before .before .loop-test in
     let l = c .before .before .before .before .before .before .before .before .loop in
     let width = c .before .before .before .before .before .before .before .before .before .width in
-    leads-unlike _ _ _ _ (l .a) (l .g) (l .inv .1) (omega (arith, width .ensures .0, loop-test .taken)) (λ e. if3 .left (stands .ensures ∙ e)) (λ e. eqb-false _ _ (sym (alike .ensures) ∙ not-true _ (if4 .taken)) (stands .ensures ∙ e))
+    leads-unlike _ _ _ _ (l .a) (l .g) _ (l .inv .1) (omega (arith, width .ensures .0, loop-test .taken)) (λ e. if3 .left (stands .ensures ∙ e)) (λ e. eqb-false _ _ (sym (alike .ensures) ∙ not-true _ (if4 .taken)) (stands .ensures ∙ e))
 
 loop-again : tie.Need-loop-again Inv-loop μ-loop
 loop-again c =
@@ -193,7 +193,7 @@ loop-again c =
 shared-slice-read-opened : tie.Need-shared-slice-read-opened Inv-loop μ-loop
 shared-slice-read-opened c =
     let w = c .before .before .before .before .before .before .before .before .before .before .before .before .before .before .before .pre in
-    omega (arith, w .0 .lasts, w .1)
+    omega (arith, w .0 .lasts, w .1 .0)
 
 opened-requires : tie.Need-opened-requires Inv-loop μ-loop
 opened-requires c κs =
@@ -239,7 +239,7 @@ step-spec =
     shared-slice-read-y
     (λ c κs. search needs)
     mul-g
-    array-write-g
+    element-write-g
     (λ c κs. search needs)
     returns-3
     (λ c. search needs)
