@@ -232,7 +232,7 @@ pub +place-spec : {M : Type 1} → statement M
     let cd = lp .before .before .before .before .before .before .before .before .before .before .before .before in
     let l = lp .loop in
     let q = c .before .before .before .carried .ensures in
-    rw (c .joined .ensures, l .inv .1, l .inv .2, q) (refuted-below _ _ _ _ _ _ _ _ (guess-full _ _ _ _ _ _ _ _ (omega (arith, lp .before .width .ensures .0, l .inv .0)) (omega (arith, lp .before .width .ensures .0, c .before .before .before .before .before .before .before .before .before .before .loop-test .left)) (l .inv .3)) (c .before .before .before .before .before .before .before .opened .ensures) _ ((answer-below _ _ _ _ _ _ (lp .before .before .before .before .before .before .enters .ensures) _ (c .before .before .before .before .before .place .ensures)) .none (unsettled _ _ _ _ _ (rw q at (c .before .before .settled .ensures)) (c .before .if7 .left))) _ (cd .candidates .inv)))
+    rw (c .joined .ensures, l .inv .2, q) (refuted-below _ _ _ _ _ _ _ _ (guess-full _ _ _ _ _ _ _ _ (omega (arith, lp .before .width .ensures .0, l .inv .0)) (omega (arith, lp .before .width .ensures .0, c .before .before .before .before .before .before .before .before .before .before .loop-test .left)) (l .inv .3)) (c .before .before .before .before .before .before .before .opened .ensures) _ ((answer-below _ _ _ _ _ _ (lp .before .before .before .before .before .before .enters .ensures) _ (c .before .before .before .before .before .place .ensures)) .none (unsettled _ _ _ _ _ (rw q at (c .before .before .settled .ensures)) (c .before .if7 .left))) _ (rw (← l .inv .1) at (cd .candidates .inv))))
     (λ c κs. search needs)
     -- returns-4
     (λ c. rw (c .none2 .ensures) (answer-none _ _ _ _ (c .before .before .before .before .before .before .if1 .left) _ _ (c .before .candidates-test .left) (c .before .before .candidates .inv)))
