@@ -1,9 +1,9 @@
 -- The question's words in areas that were empty before, as they are lent on.
-use mathlib.Core.Path.{_≡_, sym, ap, _∙_}
+use mathlib.Core.Path.{_≡_, refl, sym, ap, _∙_}
 use mathlib.Core.List.{List, map}
-use Prim.Native.Nat.{ℕ, _*_, _≤_}
+use Prim.Native.Nat.{ℕ, zero, suc, _*_, _≤_}
 use native.Mathlib.Omega.{arith}
-use lib.ListN.{length, take, length-map}
+use lib.ListN.{length, getD, take, replicate, length-map}
 use lib.Seq.{length-take-le, take-at}
 use Rattle.words.specs.Words.{Term, Subgoal}
 use Rattle.words.specs.Book.{Book}
@@ -17,6 +17,13 @@ use Rattle.asking.specs.Question.{QuestionSource, QuestionTarget}
 -- the front of an area, as it is read again
 pub front-again : (front before after : List ℕ) (n : ℕ) → after ≡ atFront front before → length front ≡ n → take n after ≡ front
 front-again front before after n e f = ap (take n) e ∙ take-at front _ n f
+
+-- the front of an empty area has zeros alone
+pub zeros-at : (n m k : ℕ) → getD {A = ℕ} (take n (replicate m 0)) k 0 ≡ 0
+zeros-at zero m k = refl
+zeros-at (suc n) zero k = refl
+zeros-at (suc n) (suc m) zero = refl
+zeros-at (suc n) (suc m) (suc k) = zeros-at n m k
 
 module _ {book : List ℕ} (b : Book) (sound : SoundBook book b) where
   abbrev body : List (Subgoal (Term ℕ))

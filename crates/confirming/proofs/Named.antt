@@ -9,13 +9,10 @@ use Rattle.words.specs.Summaries.{joined}
 use Rattle.ties.specs.Uses.{useAt, withinAt, pairsOf}
 use Rattle.ties.proofs.Pairs.{use-here, use-later}
 use Rattle.expanding.specs.Insides.{starts}
+use Rattle.expanding.proofs.Read.{first-start}
 use Rattle.confirming.specs.Places.{nowhere, Before, InUse, PlaceOf}
 
 module _ {A : Type 0} where
-  first-start : (at : ℕ) (ls : List (List A)) → getD (starts at ls) 0 0 ≡ at
-  first-start at [] = refl
-  first-start at (m ∷ ls) = refl
-
   -- a place lies in its use; the first use begins at `at`
   pub place-in : (at : ℕ) (ls : List (List A)) (j : ℕ) → j < length (joined ls) → InUse (starts at ls) (length ls) (useAt ls j) (withinAt ls j) (at + j)
   place-in at [] j h = absurd (omega arith)

@@ -53,6 +53,11 @@ module _ {A : Type 0} (ls : List (List A)) (before after : List ℕ) (k : ℕ) (
   pub inner-read : after ≡ atFront (insides ls) before → getD after k 0 ≡ withinAt ls k
   inner-read e = ap (λ l. getD l k 0) e ∙ front-at (insides ls) before k (omega (arith, insides-long ls)) ∙ insides-at ls k h
 
+-- the first list begins where all do
+pub first-start : {A : Type 0} (at : ℕ) (ls : List (List A)) → getD (starts at ls) 0 0 ≡ at
+first-start at [] = refl
+first-start at (m ∷ ls) = refl
+
 -- The r-th of lists whose words stand one after the other: what lies between its beginning and the next. The first begins at `at`.
 record Between {A : Type 0} (code : A → ℕ) (at : ℕ) (ls : List (List (Subgoal A))) (rest : List ℕ) (r here next : ℕ) : Type 0 where
   low : at ≤ here
@@ -61,10 +66,6 @@ record Between {A : Type 0} (code : A → ℕ) (at : ℕ) (ls : List (List (Subg
   words : take (9 * length (getD ls r [])) (drop (9 * (here - at)) (wordsOf code (joined ls) ++ rest)) ≡ wordsOf code (getD ls r [])
 
 module _ {A : Type 0} (code : A → ℕ) where
-  first-start : (at : ℕ) (ls : List (List (Subgoal A))) → getD (starts at ls) 0 0 ≡ at
-  first-start at [] = refl
-  first-start at (m ∷ ls) = refl
-
   -- the first list's words, and what is behind them
   apart : (m : List (Subgoal A)) (ls : List (List (Subgoal A))) (rest : List ℕ) → wordsOf code (joined (m ∷ ls)) ++ rest ≡ wordsOf code m ++ (wordsOf code (joined ls) ++ rest)
   apart m ls rest = ap (λ w. w ++ rest) (words-append code m (joined ls)) ∙ append-assoc (wordsOf code m) (wordsOf code (joined ls)) rest

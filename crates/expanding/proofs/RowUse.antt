@@ -1,7 +1,6 @@
 -- A row's summary stands in the book, and its use is one that the builders take.
 use mathlib.Core.Path.{_≡_, refl, sym, ap, subst, _∙_}
-use mathlib.Core.Bool.{Bool, true, false}
-use mathlib.Core.Option.{some, Option·none-ne-some, Option·some-injective}
+use mathlib.Core.Option.{some}
 use mathlib.Core.List.{List, [], _∷_, map}
 use Prim.Native.Nat.{ℕ, zero, suc, _+_, _*_, _-_, _<_, _≤_}
 use native.Mathlib.Omega.{arith}
@@ -9,10 +8,9 @@ use lib.ListN.{length, getD, take, drop, length-take, length-drop, length-map}
 use lib.Seq.{getD-take, take-all, take-take}
 use Rattle.words.specs.Words.{Term, con, Subgoal, Rule, DistinctVariables, each, becomes}
 use Rattle.words.specs.Summaries.{place, summary, orEmpty, definition, Own, inUse, inPlace}
-use Rattle.words.specs.Refresh.{admitted}
-use Rattle.words.specs.Book.{Summary, Book, ifTrue, admittedOf}
+use Rattle.words.specs.Book.{Summary, Book, admittedOf}
 use Rattle.words.specs.Counted.{place-within}
-use Rattle.theory.specs.Sound.{ruleOf}
+use Rattle.theory.specs.Sound.{admitted-place}
 use Rattle.layout.specs.RuleLayout.{Layout}
 use Rattle.layout.specs.BookLayout.{entries, summaryMost, SoundSummary}
 use Rattle.layout.specs.Contents.{entriesIn, partAt}
@@ -27,26 +25,9 @@ use Rattle.wording.specs.Laid.{Laid, LaidFor, UseOf, UseFor}
 use Rattle.wording.specs.Promises.{GoalCount, BodyWidths}
 use Rattle.builders.specs.Uses.{UseWords}
 use Rattle.wording.proofs.CodeLaws.{widths-each}
-use Rattle.wording.proofs.WordLaws.{padded-length}
+use Rattle.wording.proofs.WordLaws.{padded-length, padded-front}
 use Rattle.expanding.specs.Given.{RowOf, RowGiven}
 use Rattle.expanding.specs.Promises.{OneUse, OneCount, OneWidths}
-
--- an admitted rule is that of the summary of its number
-admitted-place : (need : ℕ) (ms : List Summary) (n : ℕ) (r : Rule ℕ) → summary (map (ruleOf need) ms) n ≡ some r → (m : Summary) × (place ms n ≡ some m) × (m .rule ≡ r)
-admitted-place need [] n r e = absurd (Option·none-ne-some r e)
-admitted-place need (m ∷ ms) zero r e = absurd (Option·none-ne-some r e)
-admitted-place need (m ∷ ms) (suc zero) r e = (m, refl, go (admitted need (m .stamp) (m .rule)) e)
-  where
-    go : (t : Bool) → ifTrue t (m .rule) ≡ some r → m .rule ≡ r
-    go true p = Option·some-injective (m .rule) r p
-    go false p = absurd (Option·none-ne-some r p)
-admitted-place need (m ∷ ms) (suc (suc n)) r e = admitted-place need ms (suc n) r e
-
--- the first of the padded words
-padded-front : (n : ℕ) (l : List ℕ) → length l ≤ n → take (length l) (padded n l) ≡ l
-padded-front n [] h = refl
-padded-front zero (x ∷ l) h = absurd (omega arith)
-padded-front (suc n) (x ∷ l) h = ap (_∷_ x) (padded-front n l (omega arith))
 
 -- words behind the first, taken from nine at the front
 behind : (row : List ℕ) (k x : ℕ) (l : List ℕ) → k ≤ 8 → take 9 row ≡ x ∷ l → take k (take (length row - 1) (drop 1 row)) ≡ take k l

@@ -6,6 +6,7 @@ use Prim.Native.Nat.{ℕ, zero, suc, _<_}
 use native.Mathlib.Omega.{arith}
 use lib.ListN.{length, getD, drop}
 use Rattle.words.specs.Words.{_∈_}
+use Rattle.words.specs.Counted as counted
 use Rattle.words.specs.Summaries.{place}
 
 pub getD-in : {A : Type 0} (l : List A) (i : ℕ) (d : A) → i < length l → getD l i d ∈ l
@@ -35,10 +36,7 @@ module _ {A : Type 0} where
 
   -- What stands at a place is in the list, and is followed by the rest.
   pub place-in : (l : List A) (i : ℕ) (a : A) → place l i ≡ some a → a ∈ l
-  place-in [] i a e = nothing e
-  place-in (b ∷ l) zero a e = nothing e
-  place-in (b ∷ l) (suc zero) a e = let same : a ≡ b = cc in List·Memᴰ·head same
-  place-in (b ∷ l) (suc (suc i)) a e = List·Memᴰ·tail (place-in l (suc i) a e)
+  place-in l i a e = counted.place-in l i e
 
   pub place-drop : (l : List A) (i : ℕ) (a : A) → place l (suc i) ≡ some a → drop i l ≡ a ∷ drop (suc i) l
   place-drop [] i a e = nothing e

@@ -11,13 +11,14 @@ use Rattle.wording.specs.Codes.{atFront}
 use Rattle.wording.proofs.Stores.{stores-more, stores-end, front-more}
 use Rattle.wording.proofs.WordLaws.{padded-at}
 use Rattle.frame.specs.Numbered.{nothing}
-use Rattle.ties.proofs.AtWords.{map-get, words-long, words-get}
+use Rattle.coding.proofs.Padded.{words-length}
+use Rattle.ties.proofs.AtWords.{map-get, words-get}
 use Rattle.rows.specs.RowTask.{alone}
 use Rattle.listing.specs.Alone.{aloneOf, aloneWord, aloneWords}
 
 pub alone-long : (ws : List ℕ) → length (aloneWords ws) ≡ 9 * length ws
 unfolding aloneWords
-alone-long ws = words-long itself (map aloneOf ws) ∙ ap (λ n. 9 * n) (length-map ws aloneOf)
+alone-long ws = words-length itself (map aloneOf ws) ∙ ap (λ n. 9 * n) (length-map ws aloneOf)
 
 -- the words of terms, each alone
 pub alone-words : (code : Term ℕ → ℕ) (ts : List (Term ℕ)) → aloneWords (map code ts) ≡ wordsOf code (map alone ts)

@@ -20,7 +20,7 @@ use Rattle.layout.proofs.BookStands.{book-count}
 use Rattle.layout.proofs.BookPasses.{book-loads}
 use Rattle.layout.proofs.Within.{entries-some, loads-room}
 use Rattle.coding.specs.Code.{termCode, wordsOf}
-use Rattle.ties.proofs.AtWords.{words-long}
+use Rattle.coding.proofs.Padded.{words-length}
 use Rattle.ties.proofs.Granted.{book-bounds}
 use Rattle.rows.specs.RowsAfter.{mostRows}
 use Rattle.rows.specs.Tables.{TableTo}
@@ -56,7 +56,7 @@ module _ {book : List ℕ} {area : ℕ} (w : Sought book area) where
         let h = here in
         let few = h .few in
         let area = w .room in
-        ap length (h .words) ∙ omega (arith, length-append (wordsOf termCode (h .rows)) (drop (9 * found) before), words-long termCode (h .rows), length-drop (9 * found) before, h .counted)
+        ap length (h .words) ∙ omega (arith, length-append (wordsOf termCode (h .rows)) (drop (9 * found) before), words-length termCode (h .rows), length-drop (9 * found) before, h .counted)
 
     module _ {n : ℕ} (all : n ≡ count book) where
       pub next-turn : {target own : List ℕ} → OntoQuestion book target own → i < n → Turn book target own (i + 1) found (length out)
@@ -107,4 +107,4 @@ module _ {book : List ℕ} {area : ℕ} (w : Sought book area) where
             let area = w .room in
             let rows = take mostRows (allRows (admittedOf (w .value)) (w .value .question)) in
             let all = m .many in
-            ap length (m .words) ∙ omega (arith, length-append (wordsOf termCode rows) (drop (9 * mostRows) before), words-long termCode rows, length-drop (9 * mostRows) before, length-take-le mostRows (allRows (admittedOf (w .value)) (w .value .question)) (omega arith))
+            ap length (m .words) ∙ omega (arith, length-append (wordsOf termCode rows) (drop (9 * mostRows) before), words-length termCode rows, length-drop (9 * mostRows) before, length-take-le mostRows (allRows (admittedOf (w .value)) (w .value .question)) (omega arith))

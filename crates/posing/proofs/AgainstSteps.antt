@@ -1,13 +1,13 @@
 -- One row's use against those of all rows, one after the other.
-use mathlib.Core.Path.{_≡_, sym, ap, _∙_, subst}
+use mathlib.Core.Path.{_≡_, sym, ap, ap₂, _∙_, subst}
 use mathlib.Core.Bool.{Bool, true, false}
 use mathlib.Core.Logic.{_↔_, ⊎-elim}
-use mathlib.Core.List.{List}
+use mathlib.Core.List.{List, [], _++_, append-nil}
 use Prim.Native.Nat.{ℕ, suc, _+_, _*_, _-_, _<_, _≤_}
 use native.Mathlib.Omega.{arith}
 use native.Mathlib.Decide.{decLt}
-use lib.ListN.{length, getD, take, drop}
-use lib.Seq.{getD-take}
+use lib.ListN.{length, getD, take, drop, take-append-drop}
+use lib.Seq.{drop-nil}
 use Rattle.words.specs.Summaries.{Summaries, inPlace, uses, joined}
 use Rattle.bits.specs.Sets.{Has, with}
 use Rattle.bits.proofs.Laws.{has-none, with-new, with-old, with-cases}
@@ -17,9 +17,11 @@ use Rattle.frame.specs.Dominates.{Dominates}
 use Rattle.ties.proofs.InUse.{uses-few}
 use Rattle.ties.proofs.Owners.{uses-long}
 use Rattle.wording.proofs.WordLaws.{words-length}
+use Rattle.wording.specs.Codes.{atFront}
 use Rattle.expanding.specs.Insides.{starts}
+use Rattle.expanding.proofs.Beginnings.{starts-long}
+use Rattle.expanding.proofs.Read.{UsePart, use-part}
 use Rattle.posing.specs.Dominators.{Pair, SomePair, TellsPair, Against, SomeAgainst, TellsAgainst}
-use Rattle.posing.proofs.Parts.{Between, between, uses-at}
 
 -- The words between where row d's use begins and where the next does.
 abbrev pub partOf : List ℕ → List ℕ → ℕ → List ℕ
@@ -31,8 +33,15 @@ pub record Passed (source widths target begins : List ℕ) (n d set : ℕ) : Typ
 
 module _ {source widths target begins : List ℕ} {n : ℕ} where
   module _ {s : Summaries} {rows : Rows} {r : ℕ} (a : Against s rows r source widths target begins n) where
-    begins-at : (d : ℕ) → d ≤ n → getD (starts 0 (uses s 0 rows)) d 0 ≡ getD begins d 0
-    begins-at d h = ap (λ l. getD l d 0) (sym (a .all .starts)) ∙ getD-take (length rows + 1) begins d 0 (let c = a .count in omega arith)
+    starts-front : begins ≡ atFront (starts 0 (uses s 0 rows)) begins
+    starts-front =
+        let long : length (starts 0 (uses s 0 rows)) ≡ length rows + 1 = starts-long 0 (uses s 0 rows) ∙ ap (λ k. k + 1) (uses-long s 0 rows) in
+        sym (take-append-drop (length rows + 1) begins) ∙ ap₂ (λ l k. l ++ drop k begins) (a .all .starts) (sym long)
+
+    words-front : target ≡ atFront (wordsOf ownCode (joined (uses s 0 rows))) []
+    words-front =
+        let all = wordsOf ownCode (joined (uses s 0 rows)) in
+        a .all .words ∙ sym (append-nil all) ∙ ap (λ l. all ++ l) (sym (drop-nil (length all)))
 
     target-long : length target ≡ 9 * length (joined (uses s 0 rows))
     target-long = ap length (a .all .words) ∙ words-length ownCode (joined (uses s 0 rows))
@@ -44,29 +53,11 @@ module _ {source widths target begins : List ℕ} {n : ℕ} where
         omega (arith, uses-few (a .sound .arities) s (a .sound .question) (a .sound .bounds) 0 rows (a .sound .within))
 
     module _ (d : ℕ) (h : d < n) where
-      use-between : Between (uses s 0 rows) d (getD begins d 0) (getD begins (d + 1) 0)
-      use-between =
-          let next : suc d ≡ d + 1 = omega arith in
-          let w = between (uses s 0 rows) d (let c = a .count in omega (arith, uses-long s 0 rows)) in
-          subst (λ k. Between (uses s 0 rows) d k (getD begins (d + 1) 0)) (begins-at d (omega arith))
-          (subst (Between (uses s 0 rows) d (getD (starts 0 (uses s 0 rows)) d 0)) (ap (λ k. getD (starts 0 (uses s 0 rows)) k 0) next ∙ begins-at (d + 1) (omega arith)) w)
+      use-at : UsePart s rows ownCode target d (getD begins d 0) (getD begins (d + 1) 0)
+      use-at = use-part s rows ownCode [] target begins begins words-front starts-front d (let c = a .count in omega arith)
 
       pair-at : Pair s rows d r source widths (partOf target begins d)
-      pair-at =
-          let less : d < length rows = let c = a .count in omega arith in
-          let zero-on : 0 + d ≡ d = omega arith in
-          record {
-            sound = a .sound;
-            under = a .under;
-            over = less;
-            words =
-                ap (λ w. take (9 * getD begins (d + 1) 0 - 9 * getD begins d 0) (drop (9 * getD begins d 0) w)) (a .all .words)
-                ∙ use-between .words ownCode
-                ∙ ap (wordsOf ownCode) (uses-at s 0 rows d less ∙ ap (λ u. inPlace s u (rowAt rows d)) zero-on);
-          }
-
-      ends-inside : getD begins (d + 1) 0 ≤ length (joined (uses s 0 rows))
-      ends-inside = use-between .inside
+      pair-at = record { sound = a .sound; under = a .under; over = (let c = a .count in omega arith); words = use-at .words }
 
   module _ (a : SomeAgainst source widths target begins n) where
     pub against-few : n ≤ 64
@@ -74,13 +65,13 @@ module _ {source widths target begins : List ℕ} {n : ℕ} where
 
     module _ (d : ℕ) (h : d < n) where
       pub in-order : getD begins d 0 ≤ getD begins (d + 1) 0
-      in-order = omega (arith, use-between (a .is) d h .long)
+      in-order = omega (arith, use-at (a .is) d h .rises)
 
       pub part-inside : 9 * getD begins (d + 1) 0 ≤ length target
-      part-inside = omega (arith, ends-inside (a .is) d h, target-long (a .is))
+      part-inside = omega (arith, use-at (a .is) d h .within, target-long (a .is))
 
       pub part-small : getD begins (d + 1) 0 ≤ 512
-      part-small = omega (arith, ends-inside (a .is) d h, few-targets (a .is))
+      part-small = omega (arith, use-at (a .is) d h .within, few-targets (a .is))
 
       pub some-pair : SomePair source widths (partOf target begins d)
       some-pair = record { summaries = a .summaries; rows = a .rows; d = d; r = a .r; is = pair-at (a .is) d h }

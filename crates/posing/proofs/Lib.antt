@@ -1,4 +1,3 @@
-pub mod Parts
 pub mod PairSteps
 pub mod AgainstSteps
 pub mod RowSteps

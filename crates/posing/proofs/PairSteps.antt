@@ -20,13 +20,8 @@ use Rattle.ties.proofs.InUse.{use-few, use-some}
 use Rattle.wording.proofs.WordLaws.{words-length}
 use Rattle.expanding.proofs.Spread.{widths-length}
 use Rattle.choosing.specs.Pruning.{UsesBy, Uses, TellsDominance}
+use Rattle.asking.proofs.Lent.{zeros-at}
 use Rattle.posing.specs.Dominators.{SoundRows, Pair, SomePair, NoRelation, TellsPair}
-
-zeros-at : (n m k : ℕ) → _≡_ {A = ℕ} (getD (take n (replicate m 0)) k 0) 0
-zeros-at zero m k = refl
-zeros-at (suc n) zero k = refl
-zeros-at (suc n) (suc m) zero = refl
-zeros-at (suc n) (suc m) (suc k) = zeros-at n m k
 
 -- one subgoal more that is not of the relation
 pub none-yet : (target : List ℕ) {relation k : ℕ} → ((j : ℕ) → j < k → getD target (9 * j) 0 ≡ relation → ⊥) → (getD target (9 * k) 0 ≡ relation → ⊥) → (j : ℕ) → j < k + 1 → getD target (9 * j) 0 ≡ relation → ⊥

@@ -18,7 +18,8 @@ use Rattle.layout.proofs.BookPasses.{question-reads}
 use Rattle.layout.proofs.Places.{place-of, getD-in}
 use Rattle.frame.specs.Numbered.{nothing}
 use Rattle.coding.specs.Code.{termCode, wordsOf}
-use Rattle.ties.proofs.AtWords.{relation-at, words-long}
+use Rattle.coding.proofs.Padded.{words-length}
+use Rattle.ties.proofs.AtWords.{relation-at}
 use Rattle.wording.specs.Codes.{atFront}
 use Rattle.wording.specs.Laid.{LaidFor}
 use Rattle.wording.specs.Promises.{BodyWords}
@@ -67,14 +68,14 @@ module _ {book rewriting lengths : List ℕ} (g : Given book rewriting lengths) 
     pub words-there : 9 * n ≤ length words
     words-there =
         let few = g .layout .within .few in
-        let all = words-long termCode (g .rule .body) in
+        let all = words-length termCode (g .rule .body) in
         omega (arith, count-is, ap length words-are, front-length (wordsOf termCode (g .rule .body)) empty (omega arith))
 
     -- the first word of a row is its summary's number
     number-at : (k : ℕ) → k < length (g .rule .body) → getD words (9 * k) 0 ≡ getD (g .rule .body) k nothing .relation
     number-at k h =
         ap (λ l. getD l (9 * k) 0) words-are
-        ∙ List·getD-append (wordsOf termCode (g .rule .body)) (drop (length (wordsOf termCode (g .rule .body))) empty) 0 (9 * k) (omega (arith, words-long termCode (g .rule .body)))
+        ∙ List·getD-append (wordsOf termCode (g .rule .body)) (drop (length (wordsOf termCode (g .rule .body))) empty) 0 (9 * k) (omega (arith, words-length termCode (g .rule .body)))
         ∙ relation-at termCode (g .rule .body) k h
 
     module _ {r : Bool} (says : AdmitsAll book words n r) where

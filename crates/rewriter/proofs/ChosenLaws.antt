@@ -39,8 +39,8 @@ pub few-rows : {book rows : List ℕ} {n : ℕ} (b : Book) → AskedOf book rows
 unfolding mostRows
 few-rows b a f = let m = fault-9 (admittedOf b) (b .question) (value-safe (a .sound .value)) .0 f in let c = a .count in let s = a .few in omega arith
 
--- what is stored at the start of an empty area
-stored-front : (front before : List ℕ) → length front ≤ length before → sets before 0 front ≡ front ++ drop (length front) before
+-- what is stored at the start of an area
+pub stored-front : (front before : List ℕ) → length front ≤ length before → sets before 0 front ≡ front ++ drop (length front) before
 stored-front front before h = sets-eq front before 0 (omega arith) ∙ (let z : 0 + length front ≡ length front = omega arith in ap (λ n. front ++ drop n before) z)
 
 zero-after : (m i j : ℕ) → getD {A = ℕ} (drop m (replicate i 0)) j 0 ≡ 0

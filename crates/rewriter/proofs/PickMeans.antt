@@ -11,11 +11,11 @@ use borrow.Author.Tests.{eq-eqb, ne-eqb}
 use Rattle.words.specs.Words.{_∈_, Term, var, con, Subgoal}
 use Rattle.frame.specs.Numbered.{Rows, nothing, rowAt, rowsAt}
 use Rattle.coding.specs.Code.{variableTag, constantTag, termCode, padded, subgoalWords, wordsOf, widthsOf}
-use Rattle.writing.proofs.Means.{padded-long}
+use Rattle.coding.proofs.Padded.{padded-length}
 use Rattle.rewriter.specs.Picked.{widthIn, pickedWords, pickedWidths}
 
 words-nine : (g : Subgoal (Term ℕ)) → length (subgoalWords termCode g) ≡ 9
-words-nine g = ap suc (padded-long 8 (map termCode (g .terms)))
+words-nine g = ap suc (padded-length 8 (map termCode (g .terms)))
 
 -- row r's nine words, in the words of all rows
 from-row : (l : Rows) (rest : List ℕ) (r : ℕ) → r < length l → (more : List ℕ) × (drop (9 * r) (wordsOf termCode l ++ rest) ≡ subgoalWords termCode (rowAt l r) ++ more)

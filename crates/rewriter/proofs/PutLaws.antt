@@ -34,10 +34,7 @@ use Rattle.expanding.proofs.SummaryRows.{summary-rows}
 use Rattle.telling.specs.Told.{FewOf, Tells, ThereOf, ThereTold, BackOf, BackTold}
 use Rattle.rewriter.specs.Rewriting.{Accepted}
 use Rattle.rewriter.specs.Steps.{Puts}
-
--- what is stored from the start of an area, where it fits
-stored-written : (bytes area : List ℕ) → length bytes ≤ length area → sets area 0 bytes ≡ written bytes area
-stored-written bytes area h = sets-eq bytes area 0 (omega arith) ∙ (let z : 0 + length bytes ≡ length bytes = omega arith in ap (λ n. bytes ++ drop n area) z)
+use Rattle.rewriter.proofs.ChosenLaws.{stored-front}
 
 module _ {answer witness : ℕ} (room : Fault1 answer witness → ⊥) where
   pub answer-room : 534 ≤ answer
@@ -143,7 +140,7 @@ module _ {book words widths : List ℕ} {k : ℕ} (a w : List ℕ) (p : Puts boo
     unfolding witnessRoom
     witness-holds =
         returns .written ∙ ap (λ x. sets x m (returns .bytes)) (goes .written) ∙ sets-next w 0 m (goes .bytes) (returns .bytes) (omega (arith, goes .long))
-        ∙ stored-written (goes .bytes ++ returns .bytes) w (omega (arith, witness-fits given, witness-room (p .room)))
+        ∙ stored-front (goes .bytes ++ returns .bytes) w (omega (arith, witness-fits given, witness-room (p .room)))
 
     module _ {a₁ body : List ℕ} {o : ℕ} (part : body ≡ partAt book 1) (stored : a₁ ≡ sets a 0 (rewritingBytes body words widths k)) (long : o ≡ length (rewritingBytes body words widths k)) where
       answer-is : rewritingBytes body words widths k ≡ answerBytes q result
@@ -151,7 +148,7 @@ module _ {book words widths : List ℕ} {k : ℕ} (a w : List ℕ) (p : Puts boo
 
       answer-holds : a₁ ≡ written (answerBytes q result) a
       unfolding answerRoom
-      answer-holds = stored ∙ ap (sets a 0) answer-is ∙ stored-written (answerBytes q result) a (omega (arith, answer-fits given, answer-room (p .room)))
+      answer-holds = stored ∙ ap (sets a 0) answer-is ∙ stored-front (answerBytes q result) a (omega (arith, answer-fits given, answer-room (p .room)))
 
       pub accepted : Accepted book a a₁ w w₂ o (m + n)
       accepted = record {

@@ -10,7 +10,8 @@ use Rattle.words.specs.Words.{Term, Rule}
 use Rattle.words.specs.Summaries.{place}
 use Rattle.coding.specs.Code.{padded, termCode, subgoalWords}
 use Rattle.placing.specs.Task.{Task}
-use Rattle.ties.proofs.AtWords.{nothing, padded-long}
+use Rattle.coding.proofs.Padded.{padded-length, padded-get, padded-past}
+use Rattle.ties.proofs.AtWords.{nothing, map-get}
 use Rattle.ties.proofs.AtPlaces.{place-getD}
 use Rattle.rows.specs.RowTask.{alone, onto, TaskOf}
 use Rattle.rows.specs.Steps.{rowWords}
@@ -19,22 +20,12 @@ use Rattle.rows.proofs.HeadLaws.{alone-term}
 use Rattle.rows.proofs.RowOrder.{rowOf}
 
 padded-in : (f : ℕ → ℕ) (n : ℕ) (l : List ℕ) (i : ℕ) → i < n → i < length l → getD (padded n (map f l)) i 0 ≡ f (getD l i 0)
-padded-in f zero l i h m = absurd (omega arith)
-padded-in f (suc n) [] i h m = absurd (omega arith)
-padded-in f (suc n) (x ∷ l) zero h m = refl
-padded-in f (suc n) (x ∷ l) (suc i) h m = padded-in f n l i (omega arith) (omega arith)
-
-padded-past : (n : ℕ) (l : List ℕ) (i : ℕ) → i < n → length l ≤ i → getD (padded n l) i 0 ≡ 1
-padded-past zero l i h m = absurd (omega arith)
-padded-past (suc n) [] zero h m = refl
-padded-past (suc n) [] (suc i) h m = padded-past n [] i (omega arith) (omega arith)
-padded-past (suc n) (x ∷ l) zero h m = absurd (omega arith)
-padded-past (suc n) (x ∷ l) (suc i) h m = padded-past n l i (omega arith) (omega arith)
+padded-in f n l i h m = padded-get n (map f l) i h (omega (arith, length-map l f)) ∙ map-get f l i 0 0 m
 
 module _ (number : ℕ) (target : List ℕ) where
   pub row-long : (js : List ℕ) → length (rowWords number target js) ≡ 9
   unfolding rowWords
-  row-long js = ap suc (padded-long 8 (map (λ k. getD target (9 * k + 1) 0) js))
+  row-long js = ap suc (padded-length 8 (map (λ k. getD target (9 * k + 1) 0) js))
 
   pub word-number : (js : List ℕ) (i : ℕ) → i ≡ 0 → number ≡ getD (rowWords number target js) i 0
   unfolding rowWords

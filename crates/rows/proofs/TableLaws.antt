@@ -15,7 +15,7 @@ use Rattle.words.specs.Order.{RowBefore}
 use Rattle.words.specs.Enumerate.{Enumerates}
 use Rattle.words.specs.Rows.{allRows}
 use Rattle.coding.specs.Code.{termCode, subgoalWords, wordsOf}
-use Rattle.ties.proofs.AtWords.{words-long}
+use Rattle.coding.proofs.Padded.{words-length}
 use Rattle.rows.specs.RowsAfter.{mostRows, RowsAfter}
 use Rattle.rows.specs.Tables.{RowTo, TableTo}
 use Rattle.rows.specs.declared.Tally.{Tally}
@@ -34,7 +34,7 @@ module _ (s : Summaries) (q : Rule ℕ) (before : List ℕ) where
 
   module _ (n : ℕ) (out : List ℕ) (count : ℕ) (t : TableTo s q n before out count) where
     long : length (wordsOf termCode (t .rows)) ≡ 9 * count
-    long = omega (arith, words-long termCode (t .rows), t .counted)
+    long = omega (arith, words-length termCode (t .rows), t .counted)
 
     kept : take (9 * count) out ≡ wordsOf termCode (t .rows)
     kept = ap (take (9 * count)) (t .words) ∙ take-at (wordsOf termCode (t .rows)) (drop (9 * count) before) (9 * count) long

@@ -7,7 +7,7 @@ use lib.ListN.{length, take, drop, length-append, length-drop}
 use lib.Seq.{take-all, take-at, drop-append-add, drop-drop, length-take-le, paste}
 use Rattle.words.specs.Words.{Term, Subgoal}
 use Rattle.coding.specs.Code.{termCode, subgoalWords, wordsOf}
-use Rattle.ties.proofs.AtWords.{padded-long, words-long}
+use Rattle.coding.proofs.Padded.{padded-length, words-length}
 
 -- the words of one subgoal more
 words-more : (l : List (Subgoal (Term ℕ))) (g : Subgoal (Term ℕ)) → wordsOf termCode (l ++ (g ∷ [])) ≡ wordsOf termCode l ++ subgoalWords termCode g
@@ -23,7 +23,7 @@ module _ (before : List ℕ) (found : ℕ) (l : List (Subgoal (Term ℕ))) (coun
   front = take (9 * found) before ++ wordsOf termCode l
 
   front-long : length front ≡ 9 * count
-  front-long = length-append (take (9 * found) before) (wordsOf termCode l) ∙ omega (arith, length-take-le (9 * found) before (omega arith), words-long termCode l)
+  front-long = length-append (take (9 * found) before) (wordsOf termCode l) ∙ omega (arith, length-take-le (9 * found) before (omega arith), words-length termCode l)
 
   fronted : table before found l count ≡ front ++ drop (9 * count) before
   fronted = sym (append-assoc (take (9 * found) before) (wordsOf termCode l) (drop (9 * count) before))
@@ -36,7 +36,7 @@ module _ (before : List ℕ) (found : ℕ) (l : List (Subgoal (Term ℕ))) (coun
       let s : List ℕ = subgoalWords termCode g in
       let after : List ℕ = drop (9 * (count + 1)) before in
       let kept : take (9 * count) (table before found l count) ≡ front = ap (take (9 * count)) fronted ∙ take-at front (drop (9 * count) before) (9 * count) front-long in
-      let new : take 9 s ≡ s = take-all 9 s (omega (arith, ap suc (padded-long 8 (map termCode (g .terms))))) in
+      let new : take 9 s ≡ s = take-all 9 s (omega (arith, ap suc (padded-length 8 (map termCode (g .terms))))) in
       let n : 9 * count + 9 ≡ length front + 9 = omega (arith, front-long) in
       let m : 9 * count + 9 ≡ 9 * (count + 1) = omega arith in
       let behind : drop (9 * count + 9) (table before found l count) ≡ after =

@@ -20,7 +20,7 @@ use Rattle.ties.proofs.InUse.{uses-few}
 use Rattle.ties.proofs.Back.{back-sized, back-is, back-first, back-some}
 use Rattle.writing.specs.Witness.{placeBytes, Placed}
 use Rattle.asking.specs.Question.{SomeSound, QuestionTarget, QuestionBound}
-use Rattle.asking.proofs.Lent.{targets-few, target-words}
+use Rattle.asking.proofs.Lent.{zeros-at, targets-few, target-words}
 use Rattle.telling.specs.Told.{Serves, BackOf}
 use Rattle.telling.specs.Steps.{FromOf, From}
 use Rattle.telling.proofs.Found.{FoundAt, found-at}
@@ -32,12 +32,6 @@ places-written ks (k ∷ l) i named =
     let z : i + 0 ≡ i = omega arith in
     let here : getD ks i 0 + 1 ≡ suc k = omega (arith, ap (λ n. getD ks n 0) z, named 0 (omega arith)) in
     ap₂ _∷_ here (places-written ks l (suc i) (λ j h. let e : suc i + j ≡ i + suc j = omega arith in ap (λ n. getD ks n 0) e ∙ named (suc j) (omega arith)))
-
-zero-at : (n m k : ℕ) → getD {A = ℕ} (take n (replicate m 0)) k 0 ≡ 0
-zero-at zero m k = refl
-zero-at (suc n) zero k = refl
-zero-at (suc n) (suc m) zero = refl
-zero-at (suc n) (suc m) (suc k) = zero-at n m k
 
 pub some-sound : {book source widths lasts : List ℕ} → From book source widths lasts → SomeSound book
 some-sound o = record { value = o .value; sound = o .is .list .sound }
@@ -72,7 +66,7 @@ module _ {book source widths lasts : List ℕ} (b : Book) (l : List (Subgoal (Te
   owned = own-long ∙ target .count b (o .list .sound)
 
   pub back-lent : Sized lent
-  back-lent = subst Sized (sym task-is) (back-sized (b .arities) s (b .question) bounds l (o .list .within) own bound owned (o .list .few) (λ k. omega (arith, zero-at n 12 k)))
+  back-lent = subst Sized (sym task-is) (back-sized (b .arities) s (b .question) bounds l (o .list .within) own bound owned (o .list .few) (λ k. omega (arith, zeros-at n 12 k)))
 
   abbrev head : HeadBound (b .question .head) bound
   head = heads .is b (o .list .sound)

@@ -2,10 +2,11 @@
 use mathlib.Core.Path.{_≡_, refl, subst}
 use mathlib.Core.Bool.{Bool, true, false}
 use mathlib.Core.Option.{Option, some, Option·none-ne-some, Option·some-injective}
-use mathlib.Core.List.{List, [], _∷_, map, List·Memᴰ·head, List·Memᴰ·tail}
+use mathlib.Core.List.{List, [], _∷_, map}
 use Prim.Native.Nat.{ℕ, zero, suc}
 use Rattle.words.specs.Words.{_∈_, Rule, Safe, DistinctVariables, AllFit}
-use Rattle.words.specs.Summaries.{summary}
+use Rattle.words.specs.Summaries.{place, summary}
+use Rattle.words.specs.Counted.{place-in}
 use Rattle.words.specs.Refresh.{admitted}
 use Rattle.words.specs.Book.{Summary, Book, ifTrue, admittedOf}
 use Rattle.words.specs.Sound.{AllSafe}
@@ -28,19 +29,19 @@ pub record Granted (b : Book) : Type 0 where
 abbrev pub ruleOf : ℕ → Summary → Option (Rule ℕ)
 ruleOf need m = ifTrue (admitted need (m .stamp) (m .rule)) (m .rule)
 
--- Each admitted rule is that of one of the book's summaries.
-pub from-summaries : (need : ℕ) (ms : List Summary) (n : ℕ) (r : Rule ℕ) → summary (map (ruleOf need) ms) n ≡ some r → (m : Summary) × (m ∈ ms) × (m .rule ≡ r)
-from-summaries need [] n r e = absurd (Option·none-ne-some r e)
-from-summaries need (m ∷ ms) zero r e = absurd (Option·none-ne-some r e)
-from-summaries need (m ∷ ms) (suc zero) r e = (m, List·Memᴰ·head refl, go (admitted need (m .stamp) (m .rule)) e)
+-- An admitted rule is that of the summary of its number.
+pub admitted-place : (need : ℕ) (ms : List Summary) (n : ℕ) (r : Rule ℕ) → summary (map (ruleOf need) ms) n ≡ some r → (m : Summary) × (place ms n ≡ some m) × (m .rule ≡ r)
+admitted-place need [] n r e = absurd (Option·none-ne-some r e)
+admitted-place need (m ∷ ms) zero r e = absurd (Option·none-ne-some r e)
+admitted-place need (m ∷ ms) (suc zero) r e = (m, refl, go (admitted need (m .stamp) (m .rule)) e)
   where
     go : (t : Bool) → ifTrue t (m .rule) ≡ some r → m .rule ≡ r
     go true p = Option·some-injective (m .rule) r p
     go false p = absurd (Option·none-ne-some r p)
-from-summaries need (m ∷ ms) (suc (suc n)) r e = let w = from-summaries need ms (suc n) r e in (w .0, List·Memᴰ·tail (w .1), w .2)
+admitted-place need (m ∷ ms) (suc (suc n)) r e = admitted-place need ms (suc n) r e
 
 pub admitted-from : (b : Book) (n : ℕ) (r : Rule ℕ) → summary (admittedOf b) n ≡ some r → (m : Summary) × (m ∈ b .summaries) × (m .rule ≡ r)
-admitted-from b n r e = from-summaries (b .need) (b .summaries) n r e
+admitted-from b n r e = let w = admitted-place (b .need) (b .summaries) n r e in (w .0, place-in (b .summaries) n (w .1), w .2)
 
 sound-admitted : (b : Book) → Granted b → Every (admittedOf b) (GrantedSummary (b .arities))
 sound-admitted b sound n r e = let w = admitted-from b n r e in subst (GrantedSummary (b .arities)) (w .2) (sound .summaries-sound (w .0) (w .1))

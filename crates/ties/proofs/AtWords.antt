@@ -7,18 +7,8 @@ use lib.ListN.{length, getD, length-append, length-map, List·getD-append, List�
 use lib.Seq.{getD-append-add}
 use Rattle.words.specs.Words.{Subgoal}
 pub use Rattle.frame.specs.Numbered.{nothing}
-use Rattle.coding.specs.Code.{padded, subgoalWords, wordsOf, widthsOf}
-
-pub padded-long : (n : ℕ) (l : List ℕ) → length (padded n l) ≡ n
-padded-long zero l = refl
-padded-long (suc n) [] = ap suc (padded-long n [])
-padded-long (suc n) (x ∷ l) = ap suc (padded-long n l)
-
-padded-get : (n : ℕ) (l : List ℕ) (i : ℕ) → i < n → i < length l → getD (padded n l) i 0 ≡ getD l i 0
-padded-get zero l i h m = absurd (omega arith)
-padded-get (suc n) [] i h m = absurd (omega arith)
-padded-get (suc n) (x ∷ l) zero h m = refl
-padded-get (suc n) (x ∷ l) (suc i) h m = padded-get n l i (omega arith) (omega arith)
+use Rattle.coding.specs.Code.{subgoalWords, wordsOf, widthsOf}
+use Rattle.coding.proofs.Padded.{padded-get, nine}
 
 pub map-get : {A B : Type 0} (f : A → B) (l : List A) (a : ℕ) (d : A) (e : B) → a < length l → getD (map f l) a e ≡ f (getD l a d)
 map-get f [] a d e h = absurd (omega arith)
@@ -26,18 +16,11 @@ map-get f (x ∷ l) zero d e h = refl
 map-get f (x ∷ l) (suc a) d e h = map-get f l a d e (omega arith)
 
 module _ {A : Type 0} (f : A → ℕ) where
-  nine : (g : Subgoal A) → length (subgoalWords f g) ≡ 9
-  nine g = ap suc (padded-long 8 (map f (g .terms)))
-
-  pub words-long : (gs : List (Subgoal A)) → length (wordsOf f gs) ≡ 9 * length gs
-  words-long [] = refl
-  words-long (g ∷ gs) = length-append (subgoalWords f g) (wordsOf f gs) ∙ (omega (arith, nine g, words-long gs))
-
   pub words-get : (gs : List (Subgoal A)) (i r : ℕ) → i < length gs → r < 9 → getD (wordsOf f gs) (9 * i + r) 0 ≡ getD (subgoalWords f (getD gs i nothing)) r 0
   words-get [] i r h m = absurd (omega arith)
-  words-get (g ∷ gs) zero r h m = let e : 9 * 0 + r ≡ r = omega arith in rw e (List·getD-append (subgoalWords f g) (wordsOf f gs) 0 r (omega (arith, nine g)))
+  words-get (g ∷ gs) zero r h m = let e : 9 * 0 + r ≡ r = omega arith in rw e (List·getD-append (subgoalWords f g) (wordsOf f gs) 0 r (omega (arith, nine f g)))
   words-get (g ∷ gs) (suc i) r h m =
-      let e : 9 * suc i + r ≡ length (subgoalWords f g) + (9 * i + r) = omega (arith, nine g) in
+      let e : 9 * suc i + r ≡ length (subgoalWords f g) + (9 * i + r) = omega (arith, nine f g) in
       rw e (getD-append-add (subgoalWords f g) (wordsOf f gs) (9 * i + r) 0 ∙ words-get gs i r (omega arith) m)
 
   pub relation-at : (gs : List (Subgoal A)) (i : ℕ) → i < length gs → getD (wordsOf f gs) (9 * i) 0 ≡ getD gs i nothing .relation

@@ -8,14 +8,14 @@ use Rattle.words.specs.Words.{_∈_, Term, var, con, Subgoal, Rule, Fits, becom
 use Rattle.words.specs.Summaries.{Summaries, SummaryRow}
 use Rattle.words.specs.Book.{Summary, Book, admittedOf}
 use Rattle.theory.specs.Held.{Every}
-use Rattle.theory.specs.Sound.{from-summaries}
+use Rattle.theory.specs.Sound.{admitted-from}
 use Rattle.layout.specs.RuleLayout.{TermWithin, TermsWithin, RuleWithin}
 use Rattle.layout.specs.BookLayout.{Arities, SoundValue, SoundSummary, summaryMost}
 use Rattle.ties.specs.Bounds.{Bounds, RowsWithin}
 use Rattle.ties.proofs.AtPlaces.{getD-in}
 
 sound-admitted : (b : Book) → SoundValue b → Every (admittedOf b) (λ r. (m : Summary) × SoundSummary (b .arities) m × (m .rule ≡ r))
-sound-admitted b sound n r e = let w = from-summaries (b .need) (b .summaries) n r e in (w .0, sound .summaries (w .0) (w .1), w .2)
+sound-admitted b sound n r e = let w = admitted-from b n r e in (w .0, sound .summaries (w .0) (w .1), w .2)
 
 -- The law of books.
 pub book-bounds : (b : Book) → SoundValue b → Bounds (b .arities) (admittedOf b) (b .question)

@@ -9,7 +9,8 @@ use Rattle.words.specs.Words.{_∈_, Subgoal}
 use Rattle.coding.specs.Code.{padded}
 use Rattle.placing.specs.Task.{Task, Sized, widthOf, targetTerm}
 use Rattle.ties.specs.Coded.{Naming, Coding, task, Small}
-use Rattle.ties.proofs.AtWords.{nothing, words-get, words-long, width-at}
+use Rattle.coding.proofs.Padded.{words-length}
+use Rattle.ties.proofs.AtWords.{nothing, words-get, width-at}
 use Rattle.ties.proofs.AtPlaces.{getD-in}
 
 padded-solid : (n : ℕ) (l : List ℕ) (a : ℕ) → a < n → ((x : ℕ) → x ∈ l → x ≡ 0 → ⊥) → getD (padded n l) a 0 ≡ 0 → ⊥
@@ -44,10 +45,10 @@ module _ {S D : Type 0} (n : Naming S) (c : Coding D) (src : List (Subgoal S)) (
   pub sized : Sized p
   sized = record {
     few = omega (arith, small .few, goals-are);
-    source = omega (arith, words-long (n .word) src, goals-are);
+    source = omega (arith, words-length (n .word) src, goals-are);
     lasts = omega (arith, small .marked, goals-are);
     many = omega (arith, small .many, small .rows);
-    target = omega (arith, words-long (c .code) tgt, small .rows);
+    target = omega (arith, words-length (c .code) tgt, small .rows);
     widths = widths;
     rows = small .sets;
     solid = solid;

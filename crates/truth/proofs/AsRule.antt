@@ -1,16 +1,15 @@
 -- A rewriting's rule is laid out over the lengths of the summaries' heads, and so its bytes say which rule it is.
 use mathlib.Core.Path.{_≡_, refl, sym, ap, _∙_, subst}
-use mathlib.Core.Bool.{Bool, true, false}
 use mathlib.Core.Option.{some, Option·none-ne-some, Option·some-injective}
 use mathlib.Core.List.{List, [], _∷_, map}
 use Prim.Native.Nat.{ℕ, zero, suc, _≤_}
 use native.Mathlib.Omega.{arith}
 use lib.ListN.{length, getD, length-map}
 use Rattle.words.specs.Words.{_∈_, Term, Subgoal, Rule, Fits}
-use Rattle.words.specs.Summaries.{summary}
-use Rattle.words.specs.Refresh.{admitted}
-use Rattle.words.specs.Book.{Summary, Book, ifTrue, admittedOf}
-use Rattle.theory.specs.Sound.{ruleOf}
+use Rattle.words.specs.Summaries.{place, summary}
+use Rattle.words.specs.Counted.{place-within}
+use Rattle.words.specs.Book.{Summary, Book, admittedOf}
+use Rattle.theory.specs.Sound.{ruleOf, admitted-place}
 use Rattle.layout.specs.RuleLayout.{Layout, ruleBytes}
 use Rattle.layout.specs.BookLayout.{SoundBook, questionMost}
 use Rattle.layout.proofs.RuleLaws.{layout-unique}
@@ -23,14 +22,16 @@ use Rattle.truth.proofs.Same.{true-equivalent}
 -- an admitted summary's number is one of the book's, and it is as wide as the table says
 pub width-is : (need : ℕ) (ms : List Summary) (n : ℕ) (r : Rule ℕ) → summary (map (ruleOf need) ms) n ≡ some r
     → (1 ≤ n) × (n ≤ length ms) × (getD (0 ∷ map (λ (m : Summary). length (m .rule .head)) ms) n 0 ≡ length (r .head))
-width-is need [] n r e = absurd (Option·none-ne-some r e)
-width-is need (m ∷ ms) zero r e = absurd (Option·none-ne-some r e)
-width-is need (m ∷ ms) (suc zero) r e = (omega arith, omega arith, ap (λ (x : Rule ℕ). length (x .head)) (go (admitted need (m .stamp) (m .rule)) e))
+width-is need ms n r e =
+    let w = admitted-place need ms n r e in
+    let i = place-within ms n (w .0) (w .1) in
+    (i .0, i .1, wide ms n (w .0) (w .1) ∙ ap (λ (x : Rule ℕ). length (x .head)) (w .2))
   where
-    go : (t : Bool) → ifTrue t (m .rule) ≡ some r → m .rule ≡ r
-    go true p = Option·some-injective (m .rule) r p
-    go false p = absurd (Option·none-ne-some r p)
-width-is need (m ∷ ms) (suc (suc n)) r e = let w = width-is need ms (suc n) r e in (omega arith, omega (arith, w .1), w .2)
+    wide : (ms : List Summary) (n : ℕ) (m : Summary) → place ms n ≡ some m → getD (0 ∷ map (λ (m : Summary). length (m .rule .head)) ms) n 0 ≡ length (m .rule .head)
+    wide [] n m e = absurd (Option·none-ne-some m e)
+    wide (k ∷ ms) zero m e = absurd (Option·none-ne-some m e)
+    wide (k ∷ ms) (suc zero) m e = ap (λ (x : Summary). length (x .rule .head)) (Option·some-injective k m e)
+    wide (k ∷ ms) (suc (suc n)) m e = wide ms (suc n) m e
 
 module _ {book : List ℕ} (b : Book) (sound : SoundBook book b) (r : Rule ℕ) (is : RewritingRule b r) where
   fits : (g : Subgoal (Term ℕ)) → g ∈ r .body → Fits (headLengths b) g

@@ -11,6 +11,7 @@ use Rattle.layout.specs.Numbers.{little}
 use Rattle.layout.specs.RuleLayout.{termBytes, termsBytes, subgoalBytes, subgoalsBytes, ruleBytes, TermWithin, TermsWithin}
 use Rattle.layout.proofs.Sizes.{terms-size}
 use Rattle.coding.specs.Code.{variableTag, constantTag, termCode, padded, subgoalWords, wordsOf, widthsOf}
+use Rattle.coding.proofs.Padded.{padded-length, padded-front}
 use Rattle.writing.specs.Bytes.{tagOf, wordBytes, wordsBytes, rowBytes, rowsBytes, rewritingBytes}
 use Rattle.writing.proofs.Stores.{tag-variable, tag-constant}
 
@@ -25,16 +26,6 @@ term-means (con k) h =
 terms-mean : (ts : List (Term ℕ)) → TermsWithin ts → wordsBytes (map termCode ts) ≡ termsBytes ts
 terms-mean [] h = refl
 terms-mean (t ∷ ts) h = ap₂ _++_ (term-means t (h t (List·Memᴰ·head refl))) (terms-mean ts (λ s m. h s (List·Memᴰ·tail m)))
-
-pub padded-long : (n : ℕ) (l : List ℕ) → length (padded n l) ≡ n
-padded-long zero l = refl
-padded-long (suc n) [] = ap suc (padded-long n [])
-padded-long (suc n) (x ∷ l) = ap suc (padded-long n l)
-
-padded-front : (n : ℕ) (l : List ℕ) → length l ≤ n → take (length l) (padded n l) ≡ l
-padded-front n [] h = refl
-padded-front zero (x ∷ l) h = absurd (omega arith)
-padded-front (suc n) (x ∷ l) h = ap (_∷_ x) (padded-front n l (omega arith))
 
 -- a row can be written: its number is a byte, and it has few terms, within their bounds
 pub record RowWithin (g : Subgoal (Term ℕ)) : Type 0 where
@@ -64,7 +55,7 @@ module _ (words widths : List ℕ) where
       terms =
           ap wordsBytes
           (ap (take (length (g .terms))) tail
-          ∙ take-append-le (length (g .terms)) (padded 8 (map termCode (g .terms))) rest (let n = h .narrow in omega (arith, padded-long 8 (map termCode (g .terms))))
+          ∙ take-append-le (length (g .terms)) (padded 8 (map termCode (g .terms))) rest (let n = h .narrow in omega (arith, padded-length 8 (map termCode (g .terms))))
           ∙ ap (λ n. take n (padded 8 (map termCode (g .terms)))) (sym (length-map (g .terms) termCode))
           ∙ padded-front 8 (map termCode (g .terms)) narrow)
           ∙ terms-mean (g .terms) (h .terms)
@@ -86,7 +77,7 @@ module _ (words widths : List ℕ) where
       next : drop (9 * suc r) words ≡ wordsOf termCode l ++ rest
       next =
           let p : 9 * suc r ≡ 9 * r + 9 = omega arith in
-          let n : length (subgoalWords termCode g) ≡ 9 = ap suc (padded-long 8 (map termCode (g .terms))) in
+          let n : length (subgoalWords termCode g) ≡ 9 = ap suc (padded-length 8 (map termCode (g .terms))) in
           ap (λ i. drop i words) p ∙ sym (drop-drop 9 (9 * r) words) ∙ ap (drop 9) split ∙ ap (λ i. drop i (subgoalWords termCode g ++ (wordsOf termCode l ++ rest))) (sym n) ∙ drop-append-seam (subgoalWords termCode g) (wordsOf termCode l ++ rest)
 
       after : drop (suc r) widths ≡ widthsOf l ++ more
