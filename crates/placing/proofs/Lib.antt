@@ -1,6 +1,4 @@
 pub mod Slots
-pub mod Clear
-pub mod Judging
 pub mod Guess
 pub mod Open
 pub mod Without

@@ -12,11 +12,11 @@ use lib.Dec.{eqb}
 use borrow.Author.Tests.{eq-eqb, eqb-true, not-false}
 use Rattle.bits.specs.Sets.{Has, has, with}
 use Rattle.bits.proofs.Laws.{has-true, true-has, with-new, with-old}
-use Rattle.placing.specs.Task.{Task, targets, sourceRelation, targetRelation, sourceTerm, targetTerm, widthOf, rowOf}
-use Rattle.placing.specs.Steps.{stood, noting}
+use Rattle.slots.specs.Task.{Task, targets, sourceRelation, targetRelation, sourceTerm, targetTerm, widthOf, rowOf}
+use Rattle.slots.specs.Steps.{stood, noting}
 use Rattle.placing.specs.Outlook.{UseEnd, MayBecome, Clashes, Suits, Offered, Offers, SlotsOf, memberOf, Steady, Wanting, Most}
 use Rattle.placing.specs.declared.outlook.Wants.{Wants}
-use Rattle.placing.proofs.Slots.{noting-new, noting-old}
+use Rattle.slots.proofs.Slots.{noting-new, noting-old}
 
 -- no use ends from at up to i
 pub record Going (lasts : List ℕ) (at i : ℕ) : Type 0 where

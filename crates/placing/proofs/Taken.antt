@@ -10,8 +10,8 @@ use lib.ListN.{length}
 use Rattle.bits.specs.Sets.{Has, has, with}
 use Rattle.bits.proofs.Laws.{has-true, true-has, with-new, with-old, with-cases}
 use Rattle.words.specs.Words.{_∈_}
-use Rattle.placing.specs.Task.{Task, rowOf}
-use Rattle.placing.specs.Taking.{InRows, Enters, leftAfter, Affords}
+use Rattle.slots.specs.Task.{Task, rowOf}
+use Rattle.slots.specs.Taking.{InRows, Enters, leftAfter, Affords}
 use Rattle.placing.proofs.Without.{without, without-long, without-out, without-in}
 
 -- what entering makes of the rows left

@@ -12,14 +12,14 @@ use lib.Bits.{bitOr}
 use Rattle.bits.specs.Sets.{Has, Meets}
 use Rattle.bits.proofs.Laws.{has-none, or-left, or-right}
 use Rattle.words.specs.Words.{_∈_}
-use Rattle.placing.specs.Task.{Task, posed, Sized, goals, targets, sourceTerm, widthOf, lastOf, rowOf, valueOf, Agrees, Completes, done, put}
-use Rattle.placing.specs.Taking.{InRows, Affords, Open}
+use Rattle.slots.specs.Task.{Task, posed, Sized, goals, targets, sourceTerm, widthOf, lastOf, rowOf, valueOf, Agrees, Completes, done, put}
+use Rattle.slots.specs.Taking.{InRows, Affords, Open}
 use Rattle.placing.specs.Answer.{AgreesOn, Failed}
-use Rattle.placing.specs.Steps.{stood}
+use Rattle.slots.specs.Steps.{stood}
 use Rattle.placing.specs.Outlook.{UseEnd, Suits, Readable, Offers, SlotsOf, memberOf, Steady, Wanting, Most, noWants, fairly, vainly, Outlooks}
-use Rattle.placing.specs.declared.Rows.{Rows}
+use Rattle.slots.specs.declared.Rows.{Rows}
 use Rattle.placing.specs.declared.outlook.Wants.{Wants}
-use Rattle.placing.proofs.Slots.{value-word, stood-word, stood-value}
+use Rattle.slots.proofs.Slots.{value-word, stood-word, stood-value}
 use Rattle.placing.proofs.Taken.{affords-rows}
 use Rattle.placing.proofs.Total.{total, total-more, total-most}
 use Rattle.placing.proofs.Looking.{member-small}

@@ -6,13 +6,13 @@ use Prim.Native.Nat.{ℕ, _-_, _<_}
 use lib.ListN.{getD}
 use Rattle.bits.specs.Sets.{Has}
 use Rattle.words.specs.Order.{ListBefore, First}
-use Rattle.placing.specs.Task.{Task, goals, Completes, Extends}
-use Rattle.placing.specs.Taking.{Affords, Open}
+use Rattle.slots.specs.Task.{Task, goals, Completes, Extends}
+use Rattle.slots.specs.Taking.{Affords, Open}
 use Rattle.placing.specs.Mapped.{laid, FirstOf}
-use Rattle.placing.specs.declared.Reasons.{Reasons}
+use Rattle.slots.specs.declared.Reasons.{Reasons}
 use Rattle.placing.specs.declared.Placed.{Placed}
 use Rattle.placing.specs.declared.Places.{Places}
-use Rattle.placing.specs.declared.Rows.{Rows}
+use Rattle.slots.specs.declared.Rows.{Rows}
 
 -- l completes the bindings b: the places of all source subgoals from at on
 pub record Completion (p : Task) (at : ℕ) (b : List ℕ) (l : List ℕ) : Type 0 where

@@ -7,10 +7,10 @@ use mathlib.Core.List.{List}
 use Prim.Native.Nat.{ℕ, suc, _+_, _*_, _/_, _%_, _^_, _<_, _≤_}
 use lib.ListN.{length, getD, replicate}
 use Rattle.bits.specs.Sets.{Has}
-use Rattle.placing.specs.Task.{Task, goals, targets, sourceRelation, sourceTerm, targetRelation, targetTerm, widthOf, rowOf}
+use Rattle.slots.specs.Task.{Task, goals, targets, sourceRelation, sourceTerm, targetRelation, targetTerm, widthOf, rowOf}
 use Rattle.placing.specs.Answer.{Failed}
-use Rattle.placing.specs.Steps.{stood, noReasons}
-use Rattle.placing.specs.declared.Rows.{Rows}
+use Rattle.slots.specs.Steps.{stood, noReasons}
+use Rattle.slots.specs.declared.Rows.{Rows}
 use Rattle.placing.specs.declared.outlook.Outlook.{Outlook}
 use Rattle.placing.specs.declared.outlook.Wants.{Wants}
 

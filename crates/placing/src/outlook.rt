@@ -5,14 +5,14 @@ ghost use mathlib.Core.Bool.{true};
 ghost use mathlib.Core.List.{[]};
 ghost use Prim.Native.Nat.{_*_, _<_, _≤_, max};
 ghost use lib.ListN.{length};
-ghost use Rattle.placing.specs.Task.{posed, Sized};
+ghost use Rattle.slots.specs.Task.{posed, Sized};
 ghost use Rattle.placing.specs.Outlook.{UseEnd, Clashes, Readable, Offered, Offers, SlotsOf, Steady, Wanting, Most, Outlooks, fairly, vainly, noWants, memberOf};
-use super::Reasons;
-use super::Rows;
-use super::alike;
-use super::noted;
-use super::stands;
-use super::width;
+use slots::Reasons;
+use slots::Rows;
+use slots::alike;
+use slots::noted;
+use slots::stands;
+use slots::width;
 
 // Whether it is in vain, and then why.
 pub(crate) struct Outlook {

@@ -3,7 +3,7 @@ use mathlib.Core.Path.{sym, subst, _∙_}
 use Prim.Native.Nat.{_≤_, _-_}
 use native.Mathlib.Omega.{arith}
 use borrow.Author.Tests.{not-true, not-false}
-use Rattle.placing.specs.Task.{posed}
+use Rattle.slots.specs.Task.{posed}
 use Rattle.placing.proofs.Vain.{Wanted, wanted-start, wanted-next, wanted-steady, wanted-more, readable, readable-alone, offers-whole, slots-whole, vain-none, vain-many, fair-said, vain-said}
 use Rattle.placing.proofs.outlook.look.Statement.{statement}
 use Rattle.placing.proofs.outlook.look.Tie as tie

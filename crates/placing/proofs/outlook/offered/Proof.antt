@@ -4,7 +4,7 @@ use Prim.Native.Nat.{_≤_, _-_}
 use native.Mathlib.Omega.{arith}
 use borrow.Author.Tests.{not-true, not-false}
 use mathlib.Core.List.{[]}
-use Rattle.placing.specs.Task.{posed}
+use Rattle.slots.specs.Task.{posed}
 use Rattle.placing.proofs.Looking.{Agreeable, agreeable-start, agreeable-more, offered-shut, offered-relation, offered-clash, offered-all}
 use Rattle.placing.proofs.outlook.offered.Statement.{statement}
 use Rattle.placing.proofs.outlook.offered.Tie as tie

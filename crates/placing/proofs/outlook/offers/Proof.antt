@@ -4,7 +4,7 @@ use Prim.Native.Nat.{_-_}
 use native.Mathlib.Omega.{arith}
 use borrow.Author.Tests.{not-true, not-false}
 use mathlib.Core.List.{[]}
-use Rattle.placing.specs.Task.{posed}
+use Rattle.slots.specs.Task.{posed}
 use Rattle.placing.specs.Outlook.{Offered}
 use Rattle.placing.proofs.Looking.{Offering, offering-start, offering-none, offering-more, offers-used, offers-all}
 use Rattle.placing.proofs.outlook.offers.Statement.{statement}

@@ -2,7 +2,7 @@ use borrow.Author.Needs.{needs}
 use Prim.Native.Nat.{_≤_, _-_}
 use native.Mathlib.Omega.{arith}
 use mathlib.Core.List.{[]}
-use Rattle.placing.specs.Task.{posed}
+use Rattle.slots.specs.Task.{posed}
 use Rattle.placing.proofs.Looking.{Slotted, slotted-start, slotted-more, slotted-end}
 use Rattle.placing.proofs.outlook.slots_of.Statement.{statement}
 use Rattle.placing.proofs.outlook.slots_of.Tie as tie

@@ -1,7 +1,7 @@
 use borrow.Author.Needs.{needs}
-use Rattle.placing.proofs.Judging.{settled-found, settled-meets, settled-free, settled-rows}
-use Rattle.placing.proofs.settled.Statement.{statement}
-use Rattle.placing.proofs.settled.Tie as tie
+use Rattle.slots.proofs.Judging.{settled-found, settled-meets, settled-free, settled-rows}
+use Rattle.slots.proofs.settled.Statement.{statement}
+use Rattle.slots.proofs.settled.Tie as tie
 
 returns : tie.Need-returns
 returns c = settled-found _ _ _ _ (c .if1 .taken)

@@ -1,6 +1,6 @@
 use borrow.Author.Needs.{needs}
-use Rattle.placing.proofs.blamed.Statement.{statement}
-use Rattle.placing.proofs.blamed.Tie as tie
+use Rattle.slots.proofs.blamed.Statement.{statement}
+use Rattle.slots.proofs.blamed.Tie as tie
 
 returns : tie.Need-returns
 returns c = λ i. record { slots = c .noted .ensures i; short = c .before .args .why .short }

@@ -1,9 +1,9 @@
 use borrow.Author.Needs.{needs}
 use mathlib.Core.Path.{sym, ap}
 use mathlib.Core.Bool.{_||_}
-use Rattle.placing.proofs.Judging.{joining-short}
-use Rattle.placing.proofs.joined.Statement.{statement}
-use Rattle.placing.proofs.joined.Tie as tie
+use Rattle.slots.proofs.Judging.{joining-short}
+use Rattle.slots.proofs.joined.Statement.{statement}
+use Rattle.slots.proofs.joined.Tie as tie
 
 returns : tie.Need-returns
 returns c = let a = c .before .before .args in joining-short (a .why) (a .more) _ _ (c .before .join .ensures) (sym (ap (λ b. b || a .more .short) (c .if1 .taken)))

@@ -1,7 +1,7 @@
 use borrow.Author.Needs.{needs}
-use Rattle.placing.proofs.Judging.{seeing-same, seeing-cut}
-use Rattle.placing.proofs.seen.Statement.{statement}
-use Rattle.placing.proofs.seen.Tie as tie
+use Rattle.slots.proofs.Judging.{seeing-same, seeing-cut}
+use Rattle.slots.proofs.seen.Statement.{statement}
+use Rattle.slots.proofs.seen.Tie as tie
 
 returns : tie.Need-returns
 returns c = seeing-same _ _ (c .if1 .taken)

@@ -1,8 +1,8 @@
 use borrow.Author.Needs.{needs}
 use Prim.Native.Nat.{_-_}
-use Rattle.placing.proofs.Clear.{Cleared, clear-start, clear-more, clear-end, clear-none}
-use Rattle.placing.proofs.opened.Statement.{statement}
-use Rattle.placing.proofs.opened.Tie as tie
+use Rattle.slots.proofs.Clear.{Cleared, clear-start, clear-more, clear-end, clear-none}
+use Rattle.slots.proofs.opened.Statement.{statement}
+use Rattle.slots.proofs.opened.Tie as tie
 
 abbrev Inv-loop : tie.InvT-loop
 Inv-loop g₀ last x₀ g x = Cleared g₀ g x

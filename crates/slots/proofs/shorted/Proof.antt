@@ -1,6 +1,6 @@
-use Rattle.placing.proofs.Judging.{shorting-as, shorting-none}
-use Rattle.placing.proofs.shorted.Statement.{statement}
-use Rattle.placing.proofs.shorted.Tie as tie
+use Rattle.slots.proofs.Judging.{shorting-as, shorting-none}
+use Rattle.slots.proofs.shorted.Statement.{statement}
+use Rattle.slots.proofs.shorted.Tie as tie
 
 returns : tie.Need-returns
 returns c = shorting-as _ _ (c .if1 .taken)

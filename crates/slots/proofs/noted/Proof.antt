@@ -1,8 +1,8 @@
 use borrow.Author.Needs.{needs}
 use mathlib.Core.Path.{sym, _∙_}
-use Rattle.placing.proofs.Slots.{noting-slot, noting-word}
-use Rattle.placing.proofs.noted.Statement.{statement}
-use Rattle.placing.proofs.noted.Tie as tie
+use Rattle.slots.proofs.Slots.{noting-slot, noting-word}
+use Rattle.slots.proofs.noted.Statement.{statement}
+use Rattle.slots.proofs.noted.Tie as tie
 
 returns : tie.Need-returns
 returns c = c .add .ensures ∙ sym (noting-slot _ _ (c .before .if1 .taken))

@@ -9,11 +9,11 @@ use lib.Bits.{bitOr}
 use borrow.Author.Tests.{eq-eqb, ne-eqb, not-true}
 use Rattle.bits.specs.Sets.{Has, has, with, below32, Meets}
 use Rattle.bits.proofs.Laws.{has-true, true-has, low-has}
-use Rattle.placing.specs.Taking.{Enters, leftAfter}
-use Rattle.placing.specs.Steps.{shorting, joining, seeing, Hopeless, Settled, rowsOf, entryOf, Entering}
-use Rattle.placing.specs.declared.Reasons.{Reasons}
-use Rattle.placing.specs.declared.Rows.{Rows}
-use Rattle.placing.specs.declared.Entered.{Entered}
+use Rattle.slots.specs.Taking.{Enters, leftAfter}
+use Rattle.slots.specs.Steps.{shorting, joining, seeing, Hopeless, Settled, rowsOf, entryOf, Entering}
+use Rattle.slots.specs.declared.Reasons.{Reasons}
+use Rattle.slots.specs.declared.Rows.{Rows}
+use Rattle.slots.specs.declared.Entered.{Entered}
 
 pub seeing-same : (why : Reasons) (last : ℕ) → last ≡ 0 → why ≡ seeing why last
 seeing-same why last e = rw (eq-eqb last 0 e)

@@ -6,7 +6,7 @@ use native.Mathlib.Omega.{arith}
 use native.Mathlib.Decide.{decLt}
 use lib.ListN.{length, getD, set, length-set, List·getD-eq-default}
 use lib.Seq.{getD-set-same, getD-set-other}
-use Rattle.placing.specs.Steps.{Opened}
+use Rattle.slots.specs.Steps.{Opened}
 
 -- the slots from 32 up to x are cleared
 pub record Cleared (g h : List ℕ) (x : ℕ) : Type 0 where

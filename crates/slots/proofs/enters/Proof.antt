@@ -1,8 +1,8 @@
 use borrow.Author.Needs.{needs}
 use mathlib.Core.Path.{refl, sym, _∙_}
-use Rattle.placing.proofs.Judging.{entry-as, enter-free, enter-none, enter-paid}
-use Rattle.placing.proofs.enters.Statement.{statement}
-use Rattle.placing.proofs.enters.Tie as tie
+use Rattle.slots.proofs.Judging.{entry-as, enter-free, enter-none, enter-paid}
+use Rattle.slots.proofs.enters.Statement.{statement}
+use Rattle.slots.proofs.enters.Tie as tie
 
 returns : tie.Need-returns
 returns c = enter-free _ _ _ (sym (c .before .before .before .holds .ensures) ∙ c .before .before .if1 .taken) (entry-as _ _ _ _ _ _ _ _ _ _ _ (c .entry .ensures) (c .before .rows-of .ensures) (c .before .before .before .before .add .ensures) refl refl)

@@ -1,8 +1,8 @@
 use borrow.Author.Needs.{needs}
 use mathlib.Core.Path.{sym}
-use Rattle.placing.proofs.Slots.{stood-slot, stood-word}
-use Rattle.placing.proofs.stands.Statement.{statement}
-use Rattle.placing.proofs.stands.Tie as tie
+use Rattle.slots.proofs.Slots.{stood-slot, stood-word}
+use Rattle.slots.proofs.stands.Statement.{statement}
+use Rattle.slots.proofs.stands.Tie as tie
 
 returns : tie.Need-returns
 returns c = sym (stood-slot _ _ (c .before .if1 .taken))
