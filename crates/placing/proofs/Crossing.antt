@@ -11,7 +11,7 @@ use borrow.Author.Tests.{lt-ltb, le-ltb, eq-eqb, ne-eqb}
 use Rattle.bits.specs.Sets.{Has}
 use Rattle.bits.proofs.Laws.{low-has}
 use Rattle.slots.specs.Task.{Task, lastOf, Linked, Extends}
-use Rattle.placing.specs.Answer.{AgreesOn}
+use Rattle.outlook.specs.Failure.{AgreesOn}
 use Rattle.slots.specs.Steps.{Opened, seeing}
 use Rattle.slots.specs.declared.Reasons.{Reasons}
 

@@ -11,7 +11,7 @@ use Rattle.bits.specs.Sets.{Has}
 use Rattle.bits.proofs.Laws.{or-left, or-right}
 use Rattle.slots.specs.Task.{Task, goals, targetRelation, sourceRelation, sourceTerm, targetTerm, widthOf, lastOf, rowOf, Agrees, Linked, Completes}
 use Rattle.slots.specs.Taking.{Affords, Open}
-use Rattle.placing.specs.Answer.{AgreesOn, Failed}
+use Rattle.outlook.specs.Failure.{AgreesOn, Failed}
 use Rattle.slots.specs.Steps.{stood, blaming, shorting, joining, seeing, entering, Opened, Entering}
 use Rattle.slots.specs.declared.Reasons.{Reasons}
 use Rattle.slots.specs.declared.Rows.{Rows}

@@ -18,7 +18,7 @@ use Rattle.slots.specs.declared.Rows.{Rows}
 use Rattle.placing.specs.declared.Placed.{Placed}
 use Rattle.placing.specs.declared.Places.{Places}
 use Rattle.placing.proofs.Open.{affords-open, affords-used}
-use Rattle.placing.proofs.Taken.{rows-affords, affords-rows}
+use Rattle.outlook.proofs.Taken.{rows-affords, affords-rows}
 use Rattle.placing.proofs.Laid.{laid-none}
 use Rattle.placing.proofs.Chain.{completion-mapped, mapped-completion}
 

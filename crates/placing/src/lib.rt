@@ -24,8 +24,6 @@ pub use slots::opened;
 pub use slots::stands;
 pub use slots::width;
 
-mod outlook; // what is seen to be in vain
-
 // The places of the source subgoals, or that there are none.
 pub struct Places {
     pub ok: bool,

@@ -25,7 +25,7 @@ use Rattle.slots.proofs.no_reasons.Reads as no-reasons-reads
 use Rattle.placing.proofs.none.Reads as none-reads
 use Rattle.slots.proofs.noted.Reads as noted-reads
 use Rattle.slots.proofs.opened.Reads as opened-reads
-use Rattle.placing.proofs.outlook.look.Reads as look-reads
+use Rattle.outlook.proofs.look.Reads as look-reads
 use Rattle.slots.proofs.settled.Reads as settled-reads
 use Rattle.slots.proofs.shorted.Reads as shorted-reads
 use Rattle.slots.proofs.stands.Reads as stands-reads
