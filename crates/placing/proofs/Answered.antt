@@ -10,20 +10,22 @@ use native.Mathlib.Numerals.{add-one}
 use lib.ListN.{length, getD, set, replicate}
 use Rattle.bits.specs.Sets.{Has, with}
 use Rattle.words.specs.Order.{ListBefore, First}
-use Rattle.placing.specs.Task.{Task, goals, targets, targetRelation, sourceRelation, widthOf, lastOf, rowOf, Completes, done}
-use Rattle.placing.specs.Taking.{Enters, leftAfter, Affords, Open}
+use Rattle.slots.specs.Task.{Task, goals, targets, targetRelation, sourceRelation, widthOf, lastOf, rowOf, Completes, done}
+use Rattle.slots.specs.Taking.{Enters, leftAfter, Affords, Open}
 use Rattle.placing.specs.Mapped.{laid}
-use Rattle.placing.specs.Answer.{AgreesOn, Completion, Afforded, Failed, Answer}
-use Rattle.placing.specs.Steps.{Opened, Entering, Hopeless, Settled, entering, seeing, carrying, found, failed}
-use Rattle.placing.specs.Outlook.{Outlooks}
-use Rattle.placing.specs.declared.Reasons.{Reasons}
+use Rattle.outlook.specs.Failure.{AgreesOn, Failed}
+use Rattle.placing.specs.Answer.{Completion, Afforded, Answer}
+use Rattle.slots.specs.Steps.{Opened, Entering, Hopeless, Settled, entering, seeing}
+use Rattle.placing.specs.Steps.{carrying, found, failed}
+use Rattle.outlook.specs.Outlook.{Outlooks}
+use Rattle.slots.specs.declared.Reasons.{Reasons}
 use Rattle.placing.specs.declared.Placed.{Placed}
-use Rattle.placing.specs.declared.Rows.{Rows}
-use Rattle.placing.specs.declared.Entered.{Entered}
-use Rattle.placing.specs.declared.outlook.Outlook.{Outlook}
+use Rattle.slots.specs.declared.Rows.{Rows}
+use Rattle.slots.specs.declared.Entered.{Entered}
+use Rattle.outlook.specs.declared.Outlook.{Outlook}
 use Rattle.placing.proofs.Guess.{Guess}
 use Rattle.placing.proofs.Open.{open-with, open-tail, affords-open}
-use Rattle.placing.proofs.Taken.{affords-free}
+use Rattle.outlook.proofs.Taken.{affords-free}
 use Rattle.placing.proofs.Laid.{laid-none, laid-put}
 use Rattle.placing.proofs.Crossing.{carry}
 use Rattle.placing.proofs.Onward.{step, after, onward}

@@ -8,7 +8,7 @@ use native.Mathlib.Decide.{ℕ-discrete, decLt}
 use lib.ListN.{length, getD}
 use lib.Dec.{ltb}
 use borrow.Author.Tests.{lt-ltb, le-ltb, eq-eqb, ne-eqb}
-use Rattle.placing.specs.Task.{Task, goals, targets, lastOf, Agrees, Linked, Completes, done, put, Extends}
+use Rattle.slots.specs.Task.{Task, goals, targets, lastOf, Agrees, Linked, Completes, done, put, Extends}
 use Rattle.placing.specs.Mapped.{useOf, Lands, Mapped}
 use Rattle.placing.specs.Answer.{Completion}
 

@@ -10,10 +10,10 @@ use lib.Dec.{ltb}
 use borrow.Author.Tests.{lt-ltb, le-ltb, eq-eqb, ne-eqb}
 use Rattle.bits.specs.Sets.{Has}
 use Rattle.bits.proofs.Laws.{low-has}
-use Rattle.placing.specs.Task.{Task, lastOf, Linked, Extends}
-use Rattle.placing.specs.Answer.{AgreesOn}
-use Rattle.placing.specs.Steps.{Opened, seeing}
-use Rattle.placing.specs.declared.Reasons.{Reasons}
+use Rattle.slots.specs.Task.{Task, lastOf, Linked, Extends}
+use Rattle.outlook.specs.Failure.{AgreesOn}
+use Rattle.slots.specs.Steps.{Opened, seeing}
+use Rattle.slots.specs.declared.Reasons.{Reasons}
 
 module _ (p : Task) (at : ℕ) (g h : List ℕ) (o : Opened (lastOf p at) g h) where
   -- what is bound after it was bound before, and the next subgoal sees the same value

@@ -7,9 +7,9 @@ use native.Mathlib.Decide.{ℕ-discrete}
 use lib.ListN.{length, getD, set, length-set}
 use lib.Seq.{getD-set-same, getD-set-other}
 use Rattle.bits.specs.Sets.{Has}
-use Rattle.placing.specs.Task.{Task, sourceTerm, targetTerm, valueOf, Extends}
-use Rattle.placing.specs.Steps.{stood, noting}
-use Rattle.placing.proofs.Slots.{value-slot, stood-slot, stood-none, stood-value, noting-new, noting-old}
+use Rattle.slots.specs.Task.{Task, sourceTerm, targetTerm, valueOf, Extends}
+use Rattle.slots.specs.Steps.{stood, noting}
+use Rattle.slots.proofs.Slots.{value-slot, stood-slot, stood-none, stood-value, noting-new, noting-old}
 
 -- under v the first n terms of the source subgoal i become those of the target k
 abbrev pub TermsAgree : Task → (ℕ → ℕ) → ℕ → ℕ → ℕ → Type 0

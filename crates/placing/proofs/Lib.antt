@@ -1,15 +1,8 @@
 pub mod Slots
-pub mod Clear
-pub mod Judging
 pub mod Guess
 pub mod Open
-pub mod Without
-pub mod Taken
 pub mod Crossing
 pub mod Onward
-pub mod Total
-pub mod Vain
-pub mod Looking
 pub mod Refuted
 pub mod Laid
 pub mod Answered

@@ -4,9 +4,9 @@ use mathlib.Core.List.{List, _∷_}
 use Prim.Native.Nat.{ℕ, suc, _-_, _<_}
 use native.Mathlib.Omega.{arith}
 use lib.ListN.{getD}
-use Rattle.placing.specs.Task.{Task, goals, targets, targetRelation, sourceRelation, widthOf, lastOf, Agrees, Linked, Completes, put, Extends}
+use Rattle.slots.specs.Task.{Task, goals, targets, targetRelation, sourceRelation, widthOf, lastOf, Agrees, Linked, Completes, put, Extends}
 use Rattle.placing.specs.Answer.{Completion}
-use Rattle.placing.specs.Steps.{Opened}
+use Rattle.slots.specs.Steps.{Opened}
 use Rattle.placing.proofs.Guess.{Guess, guess-known}
 use Rattle.placing.proofs.Crossing.{through, before}
 

@@ -6,8 +6,8 @@ use Prim.Native.Nat.{ℕ}
 use Rattle.bits.specs.Sets.{Has, with}
 use Rattle.bits.proofs.Laws.{with-old, with-cases}
 use Rattle.words.specs.Words.{_∈_}
-use Rattle.placing.specs.Task.{Task, rowOf}
-use Rattle.placing.specs.Taking.{Enters, leftAfter, Affords, Open}
+use Rattle.slots.specs.Task.{Task, rowOf}
+use Rattle.slots.specs.Taking.{Enters, leftAfter, Affords, Open}
 
 -- one row more in use shuts nothing
 pub open-with : (p : Task) (used may row : ℕ) (l : List ℕ) → Open p used may l → Open p (with used row) may l

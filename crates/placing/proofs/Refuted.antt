@@ -9,14 +9,14 @@ use native.Mathlib.Decide.{decLt}
 use lib.ListN.{length, getD, List·getD-eq-default}
 use Rattle.bits.specs.Sets.{Has}
 use Rattle.bits.proofs.Laws.{or-left, or-right}
-use Rattle.placing.specs.Task.{Task, goals, targetRelation, sourceRelation, sourceTerm, targetTerm, widthOf, lastOf, rowOf, Agrees, Linked, Completes}
-use Rattle.placing.specs.Taking.{Affords, Open}
-use Rattle.placing.specs.Answer.{AgreesOn, Failed}
-use Rattle.placing.specs.Steps.{stood, blaming, shorting, joining, seeing, entering, Opened, Entering}
-use Rattle.placing.specs.declared.Reasons.{Reasons}
-use Rattle.placing.specs.declared.Rows.{Rows}
-use Rattle.placing.specs.declared.Entered.{Entered}
-use Rattle.placing.proofs.Slots.{stood-value, noting-new, noting-old}
+use Rattle.slots.specs.Task.{Task, goals, targetRelation, sourceRelation, sourceTerm, targetTerm, widthOf, lastOf, rowOf, Agrees, Linked, Completes}
+use Rattle.slots.specs.Taking.{Affords, Open}
+use Rattle.outlook.specs.Failure.{AgreesOn, Failed}
+use Rattle.slots.specs.Steps.{stood, blaming, shorting, joining, seeing, entering, Opened, Entering}
+use Rattle.slots.specs.declared.Reasons.{Reasons}
+use Rattle.slots.specs.declared.Rows.{Rows}
+use Rattle.slots.specs.declared.Entered.{Entered}
+use Rattle.slots.proofs.Slots.{stood-value, noting-new, noting-old}
 use Rattle.placing.proofs.Guess.{Guess, TermsAgree, guess-known}
 use Rattle.placing.proofs.Open.{open-with, open-tail}
 use Rattle.placing.proofs.Crossing.{carry}

@@ -2,17 +2,13 @@
 use mathlib.Core.Bool.{Bool, true, false}
 use mathlib.Core.Path.{_≡_, refl, ap, sym, _∙_}
 use mathlib.Core.List.{List}
-use Prim.Native.Nat.{ℕ, _≤_}
-use native.Mathlib.Omega.{arith}
-use native.Mathlib.Decide.{ℕ-discrete, decLt}
-use lib.Seq.{ext-getD}
+use Prim.Native.Nat.{ℕ}
 use Rattle.bits.proofs.Laws.{exactly-once}
 use Rattle.words.specs.Strict.{first-unique}
 use Rattle.words.specs.Orders.{bytesOrder}
-use Rattle.placing.specs.Task.{Task}
+use Rattle.slots.specs.Task.{Task}
 use Rattle.placing.specs.Mapped.{laid, FirstOf, FirstPlaces, Feasible, Enough}
 use Rattle.placing.specs.Answer.{PlacesFrom}
-use Rattle.placing.specs.Steps.{Opened}
 use Rattle.placing.specs.declared.Places.{Places}
 
 module _ (Ok : List ℕ → Type 0) (at : ℕ) (r s : Places) (f : FirstOf Ok at r) (g : FirstOf Ok at s) where
@@ -37,13 +33,3 @@ first-places-unique p b = first-of-unique _ 0
 
 pub enough-unique : (p : Task) (b : List ℕ) (used may left : ℕ) (r s : Bool) → Enough p b used may left r → Enough p b used may left s → r ≡ s
 enough-unique p b used may left r s f g = exactly-once r s (f .exactly) (g .exactly)
-
--- bindings where a new use starts
-pub opened-once : (last : ℕ) (g h k : List ℕ) → Opened last g h → Opened last g k → h ≡ k
-opened-once last g h k o q = elim (ℕ-discrete last 0) [
-  | yes z ↦ o .same z ∙ sym (q .same z)
-  | no n ↦ ext-getD 0 h k (o .long ∙ sym (q .long)) (λ x i. elim (decLt x 32) [
-    | yes j ↦ o .low x j ∙ sym (q .low x j)
-    | no j ↦ let m : 32 ≤ x = omega arith in o .high n x m ∙ sym (q .high n x m)
-  ])
-]

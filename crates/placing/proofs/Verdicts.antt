@@ -9,16 +9,16 @@ use lib.ListN.{replicate}
 use Rattle.bits.specs.Sets.{Has}
 use Rattle.bits.proofs.Laws.{all-has}
 use Rattle.words.specs.Order.{ListBefore, First}
-use Rattle.placing.specs.Task.{Task, Sized, rowOf}
-use Rattle.placing.specs.Taking.{Affords}
+use Rattle.slots.specs.Task.{Task, Sized, rowOf}
+use Rattle.slots.specs.Taking.{Affords}
 use Rattle.placing.specs.Mapped.{Mapped, laid, FirstPlaces, Feasible, Enough}
 use Rattle.placing.specs.Answer.{Completion, Afforded, Answer, PlacesFrom}
-use Rattle.placing.specs.Steps.{rowsOf}
-use Rattle.placing.specs.declared.Rows.{Rows}
+use Rattle.slots.specs.Steps.{rowsOf}
+use Rattle.slots.specs.declared.Rows.{Rows}
 use Rattle.placing.specs.declared.Placed.{Placed}
 use Rattle.placing.specs.declared.Places.{Places}
 use Rattle.placing.proofs.Open.{affords-open, affords-used}
-use Rattle.placing.proofs.Taken.{rows-affords, affords-rows}
+use Rattle.outlook.proofs.Taken.{rows-affords, affords-rows}
 use Rattle.placing.proofs.Laid.{laid-none}
 use Rattle.placing.proofs.Chain.{completion-mapped, mapped-completion}
 

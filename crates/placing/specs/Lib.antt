@@ -3,4 +3,3 @@ pub mod Taking
 pub mod Mapped
 pub mod Answer
 pub mod Steps
-pub mod Outlook

@@ -7,8 +7,8 @@ use Prim.Native.Nat.{ℕ, zero, suc, _+_, _-_, _<_}
 use lib.ListN.{length, getD, replicate}
 use lib.Dec.{eqb}
 use Rattle.words.specs.Order.{ListBefore, First}
-use Rattle.placing.specs.Task.{Task, goals, targets, lastOf, Agrees, Extends}
-use Rattle.placing.specs.Taking.{InRows}
+use Rattle.slots.specs.Task.{Task, goals, targets, lastOf, Agrees, Extends}
+use Rattle.slots.specs.Taking.{InRows}
 use Rattle.placing.specs.declared.Places.{Places}
 
 -- the use that the source subgoal i belongs to, counted from 0

@@ -1,0 +1,5 @@
+pub mod Without
+pub mod Taken
+pub mod Total
+pub mod Looking
+pub mod InVain

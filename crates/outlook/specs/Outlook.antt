@@ -1,0 +1,84 @@
+-- What is seen before a source subgoal is placed: that it would be in vain.
+-- Each source subgoal of the same use wants a row with a target that it may still become.
+use mathlib.Core.Bool.{Bool, true, false}
+use mathlib.Core.Path.{_≡_}
+use mathlib.Core.Logic.{_↔_}
+use mathlib.Core.List.{List}
+use Prim.Native.Nat.{ℕ, suc, _+_, _*_, _/_, _%_, _^_, _<_, _≤_}
+use lib.ListN.{length, getD, replicate}
+use Rattle.bits.specs.Sets.{Has}
+use Rattle.slots.specs.Task.{Task, goals, targets, sourceRelation, sourceTerm, targetRelation, targetTerm, widthOf, rowOf}
+use Rattle.outlook.specs.Failure.{Failed}
+use Rattle.slots.specs.Steps.{stood, noReasons}
+use Rattle.slots.specs.declared.Rows.{Rows}
+use Rattle.outlook.specs.declared.Outlook.{Outlook}
+use Rattle.outlook.specs.declared.Wants.{Wants}
+
+-- no use ends before the last of the source subgoals from at up to end
+pub record UseEnd (lasts : List ℕ) (at end : ℕ) : Type 0 where
+  pub within : end ≤ length lasts
+  pub one : (i : ℕ) → at ≤ i → suc i < end → getD lasts i 0 ≡ 0
+
+-- the source term x may still become y: it is not bound, or to that
+abbrev pub MayBecome : List ℕ → ℕ → ℕ → Type 0
+MayBecome b x y = (stood b x ≡ 0 → ⊥) → stood b x ≡ y
+
+pub record Clashes (b : List ℕ) (x y : ℕ) (answer : Bool) : Type 0 where
+  pub exactly : (answer ≡ false) ↔ MayBecome b x y
+
+-- the source subgoal i may still become the target k
+pub record Suits (p : Task) (b : List ℕ) (i k : ℕ) : Type 0 where
+  pub relation : targetRelation p k ≡ sourceRelation p i
+  pub terms : (a : ℕ) → a < widthOf p i → MayBecome b (sourceTerm p i a) (targetTerm p k a)
+
+-- What is to hold where the source subgoal i is compared: it is there, and so are the words of all targets.
+pub record Readable (p : Task) (i : ℕ) : Type 0 where
+  pub there : i < goals p
+  pub narrow : widthOf p i ≤ 8
+  pub source : 9 * i + 8 < length (p .source)
+  pub target : length (p .target) ≡ 9 * targets p
+  pub many : targets p ≤ 512
+  pub rows : (k : ℕ) → rowOf p k < 64
+
+pub record Offered (p : Task) (b : List ℕ) (allowed i k : ℕ) (answer : Bool) : Type 0 where
+  pub exactly : (answer ≡ true) ↔ (Has allowed (rowOf p k) × Suits p b i k)
+
+-- all rows of the set `allowed` with a target for the source subgoal i, unless one that is in use is among them
+pub record Offers (p : Task) (b : List ℕ) (used allowed i rows : ℕ) : Type 0 where
+  pub each : ((x : ℕ) → Has rows x → Has used x → ⊥) → (k : ℕ) → k < targets p → Has allowed (rowOf p k) → Suits p b i k → Has rows (rowOf p k)
+
+pub record SlotsOf (p : Task) (i set slots : ℕ) : Type 0 where
+  pub old : (x : ℕ) → Has set x → Has slots x
+  pub new : (a : ℕ) → a < widthOf p i → sourceTerm p i a < 64 → Has slots (sourceTerm p i a)
+
+unfoldable pub memberOf : ℕ → ℕ → ℕ
+memberOf set x = set / 2 ^ x % 2
+
+abbrev pub noWants : Wants
+noWants = record { many = 0; served = replicate 64 0; slots = 0 }
+
+-- there are few, and none serves more
+pub record Steady (w : Wants) : Type 0 where
+  pub few : w .many < 96
+  pub long : length (w .served) ≡ 64
+  pub below : (x : ℕ) → getD (w .served) x 0 ≤ w .many
+
+pub record Wanting (w : Wants) (rows set : ℕ) (more : Wants) : Type 0 where
+  pub many : more .many ≡ suc (w .many)
+  pub long : length (more .served) ≡ 64
+  pub served : (x : ℕ) → x < 64 → getD (more .served) x 0 ≡ getD (w .served) x 0 + memberOf rows x
+  pub slots : more .slots ≡ set
+
+-- m is the largest of the 64
+pub record Most (l : List ℕ) (m : ℕ) : Type 0 where
+  pub each : (x : ℕ) → x < 64 → getD l x 0 ≤ m
+  pub least : (n : ℕ) → ((x : ℕ) → x < 64 → getD l x 0 ≤ n) → m ≤ n
+
+abbrev pub fairly : Outlook
+fairly = record { vain = false; why = noReasons }
+
+abbrev pub vainly : ℕ → Bool → Outlook
+vainly slots short = record { vain = true; why = record { slots = slots; short = short } }
+
+pub record Outlooks (p : Task) (at : ℕ) (b : List ℕ) (rows : Rows) (r : Outlook) : Type 0 where
+  pub vain : r .vain ≡ true → Failed p at b rows (r .why)

@@ -1,0 +1,4 @@
+pub mod Slots
+pub mod Clear
+pub mod Judging
+pub mod Unique

@@ -1,0 +1,3 @@
+pub mod Task
+pub mod Taking
+pub mod Steps
