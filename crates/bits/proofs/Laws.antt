@@ -156,6 +156,10 @@ all-has x h =
     let q : 18446744073709551615 / 2 ^ x ≡ 2 ^ suc (63 - x) - 1 = ap (λ n. n / 2 ^ x) (rw j at s) ∙ high (2 ^ suc (63 - x) - 1) x (ones-lt x) in
     rw q (omega (arith, two-pow-succ (63 - x), ones-lt (63 - x)))
 
+-- two sets with the same members are the same
+pub same-members : (a b : ℕ) → ((x : ℕ) → Has a x ↔ Has b x) → a ≡ b
+same-members a b h = sym (or-within b a (λ x. h x .1)) ∙ or-comm b a ∙ or-within a b (λ x. h x .0)
+
 -- two answers that are true exactly if the same thing holds are the same
 pub exactly-once : {P : Type 0} (r s : Bool) → (r ≡ true) ↔ P → (s ≡ true) ↔ P → r ≡ s
 exactly-once true true f g = refl
