@@ -1,7 +1,7 @@
 -- Why a search is seen to be in vain: a source subgoal of the same use that no row has a target for, or too many that want a row not yet in use.
 use mathlib.Core.Bool.{Bool, true, false, false≢true}
 use mathlib.Core.Path.{_≡_, refl, ap, sym, subst, _∙_, fun-ext}
-use mathlib.Core.Logic.{_⊎_, inl, inr}
+use mathlib.Core.Logic.{_⊎_, inl, inr, ⊎-elim}
 use mathlib.Core.List.{List, [], _∷_, List·Memᴰ·head, List·Memᴰ·tail}
 use Prim.Native.Nat.{ℕ, zero, suc, _+_, _-_, _*_, _<_, _≤_}
 use native.Mathlib.Omega.{arith}
@@ -16,7 +16,8 @@ use Rattle.slots.specs.Task.{Task, posed, Sized, goals, targets, sourceTerm, wi
 use Rattle.slots.specs.Taking.{InRows, Affords, Open}
 use Rattle.outlook.specs.Failure.{AgreesOn, Failed}
 use Rattle.slots.specs.Steps.{stood}
-use Rattle.outlook.specs.Outlook.{UseEnd, Suits, Readable, Offers, SlotsOf, memberOf, Steady, Wanting, Most, noWants, fairly, vainly, Outlooks}
+use Rattle.outlook.specs.Outlook.{UseEnd, Suits, HasTarget, Readable, Offers, SlotOf, SlotsOf, memberOf, Steady, Wanting, Most, noWants, fairly, vainly}
+use Rattle.outlook.specs.Seen.{Seen, Outlooks}
 use Rattle.slots.specs.declared.Rows.{Rows}
 use Rattle.outlook.specs.declared.Wants.{Wants}
 use Rattle.slots.proofs.Slots.{value-word, stood-word, stood-value}
@@ -52,10 +53,20 @@ suits p b i k slots v on has g = record { relation = g .relation; terms = λ a h
 
 -- where a use ends says nothing of what a subgoal may become
 pub offers-whole : (p : Task) (b : List ℕ) (used allowed i rows : ℕ) → Offers (posed (p .source) (p .widths) [] (p .target) (p .own)) b used allowed i rows → Offers p b used allowed i rows
-offers-whole p b used allowed i rows f = record { each = λ n k h m s. f .each n k h m (record { relation = s .relation; terms = s .terms }) }
+offers-whole p b used allowed i rows f =
+    record {
+      only = λ x h. (f .only x h .0, let t = f .only x h .1 in record { k = t .k; within = t .within; row = t .row; fits = record { relation = t .fits .relation; terms = t .fits .terms } });
+      each = λ n k h m s. f .each n k h m (record { relation = s .relation; terms = s .terms });
+    }
 
 pub slots-whole : (p : Task) (i set slots : ℕ) → SlotsOf (posed (p .source) (p .widths) [] [] []) i set slots → SlotsOf p i set slots
-slots-whole p i set slots s = record { old = s .old; new = s .new }
+slots-whole p i set slots s =
+    record {
+      exactly = λ x. (
+        λ h. ⊎-elim (λ o. inl o) (λ o. inr (record { a = o .a; counts = o .counts; is = o .is; slot = o .slot })) (s .exactly x .0 h),
+        λ h. s .exactly x .1 (⊎-elim (λ o. inl o) (λ o. inr (record { a = o .a; counts = o .counts; is = o .is; slot = o .slot })) h),
+      );
+    }
 
 -- so many, of those before i, want rows that are not in use: whatever rows are taken serve them
 pub record Wanted (p : Task) (at : ℕ) (b : List ℕ) (rows : Rows) (w : Wants) (i : ℕ) : Type 0 where
@@ -85,22 +96,22 @@ module _ (p : Task) (at : ℕ) (b : List ℕ) (rows : Rows) where
   pub wanted-next : (w : Wants) (i : ℕ) → Wanted p at b rows w i → Wanted p at b rows w (i + 1)
   wanted-next w i q = record { few = omega (arith, q .few); small = q .small; long = q .long; below = q .below; taken = q .taken }
 
-  pub fair-said : Outlooks p at b rows fairly
-  fair-said = record { vain = λ e. absurd (false≢true e) }
+  pub fair-said : Seen p at b rows fairly → Outlooks p at b rows fairly
+  fair-said s = record { seen = s; vain = λ e. absurd (false≢true e) }
 
-  pub vain-said : (slots : ℕ) (short : Bool) → Failed p at b rows record { slots = slots; short = short } → Outlooks p at b rows (vainly slots short)
-  vain-said slots short f = record { vain = λ e. f }
+  pub vain-said : (slots : ℕ) (short : Bool) → Seen p at b rows (vainly slots short) → Failed p at b rows record { slots = slots; short = short } → Outlooks p at b rows (vainly slots short)
+  vain-said slots short s f = record { seen = s; vain = λ e. f }
 
 module _ (p : Task) (z : Sized p) (at end : ℕ) (u : UseEnd (p .lasts) at end) where
-  there : (i : ℕ) → i < end → i < goals p
-  there i h = omega (arith, u .within, z .lasts)
+  there : (i : ℕ) → at ≤ i → i < end → i < goals p
+  there i g h = omega (arith, u .exactly i .0 (g, h) .there, z .lasts)
 
   -- what may be read of a source subgoal of the use
-  pub readable : (i : ℕ) → i < end → Readable (posed (p .source) (p .widths) [] (p .target) (p .own)) i
-  readable i h = record { there = there i h; narrow = z .widths i; source = omega (arith, z .source, there i h); target = z .target; many = z .many; rows = z .rows }
+  pub readable : (i : ℕ) → at ≤ i → i < end → Readable (posed (p .source) (p .widths) [] (p .target) (p .own)) i
+  readable i g h = record { there = there i g h; narrow = z .widths i; source = omega (arith, z .source, there i g h); target = z .target; many = z .many; rows = z .rows }
 
-  pub readable-alone : (i : ℕ) → i < end → Readable (posed (p .source) (p .widths) [] [] []) i
-  readable-alone i h = record { there = there i h; narrow = z .widths i; source = omega (arith, z .source, there i h); target = refl; many = omega arith; rows = λ k. omega arith }
+  pub readable-alone : (i : ℕ) → at ≤ i → i < end → Readable (posed (p .source) (p .widths) [] [] []) i
+  readable-alone i g h = record { there = there i g h; narrow = z .widths i; source = omega (arith, z .source, there i g h); target = refl; many = omega arith; rows = λ k. omega arith }
 
 module _ (p : Task) (z : Sized p) (at end : ℕ) (u : UseEnd (p .lasts) at end) (b : List ℕ) (rows : Rows) where
   -- the target that a completion sends it to
@@ -113,8 +124,8 @@ module _ (p : Task) (z : Sized p) (at end : ℕ) (u : UseEnd (p .lasts) at end) 
   sent : (i : ℕ) → at ≤ i → i < end → (set slots : ℕ) → SlotsOf p i set slots → (v : ℕ → ℕ) (l : List ℕ) → AgreesOn b slots v → Completes p (goals p - at) at v l → Sent i l
   sent i h j set slots s v l on c =
       let e : at + (i - at) ≡ i = omega arith in
-      let d = rw e at (landing p (goals p - at) at (i - at) v l (omega (arith, there p z at end u i j)) (λ y m n. u .one y m (omega arith)) c) in
-      record { k = d .k; inside = d .inside; within = d .within; fits = suits p b i (d .k) slots v on (s .new) (d .agrees) }
+      let d = rw e at (landing p (goals p - at) at (i - at) v l (omega (arith, there p z at end u i h j)) (λ y m n. u .exactly i .0 (h, j) .one y m (omega arith)) c) in
+      record { k = d .k; inside = d .inside; within = d .within; fits = suits p b i (d .k) slots v on (λ a k l. s .exactly _ .1 (inr (record { a = a; counts = k; is = refl; slot = l }))) (d .agrees) }
 
   either : (x : ℕ) → Has (rows .used) x ⊎ Has (rows .may) x → Has (bitOr (rows .used) (rows .may)) x
   either x (inl m) = or-left (rows .used) (rows .may) x m
@@ -129,8 +140,8 @@ module _ (p : Task) (z : Sized p) (at end : ℕ) (u : UseEnd (p .lasts) at end) 
           let k = sent i h j 0 slots s v l on c in
           has-none (rowOf p (k .k)) (f .each (λ x m. absurd (has-none x m)) (k .k) (k .within) (either (rowOf p (k .k)) (o (k .k) (k .inside))) (k .fits))
 
-  pub wanted-steady : (w : Wants) (i : ℕ) → i < end → Wanted p at b rows w i → Steady w
-  wanted-steady w i h q = record { few = omega (arith, q .few, there p z at end u i h, z .few); long = q .long; below = q .below }
+  pub wanted-steady : (w : Wants) (i : ℕ) → at ≤ i → i < end → Wanted p at b rows w i → Steady w
+  wanted-steady w i g h q = record { few = omega (arith, q .few, there p z at end u i g h, z .few); long = q .long; below = q .below }
 
   -- one more wants a row, and none in use has a target for it
   module _ (w : Wants) (i : ℕ) (h : at ≤ i) (j : i < end) (q : Wanted p at b rows w i) (with slots : ℕ) (s : SlotsOf p i (w .slots) slots) (f : Offers p b (rows .used) (bitOr (rows .used) (rows .may)) i with) (m : Meets with (rows .used) false) (more : Wants) (g : Wanting w with slots more) where
@@ -160,13 +171,13 @@ module _ (p : Task) (z : Sized p) (at end : ℕ) (u : UseEnd (p .lasts) at end) 
     wanted-more =
         record {
           few = omega (arith, q .few, g .many);
-          small = omega (arith, g .many, wanted-steady w i j q .few);
+          small = omega (arith, g .many, wanted-steady w i h j q .few);
           long = g .long;
           below = λ x. elim (decLt x 64) [
             | yes y ↦ omega (arith, g .served x y, g .many, q .below x, member-small with x)
             | no y ↦ let e : getD (more .served) x 0 ≡ 0 = List·getD-eq-default (more .served) 0 (omega (arith, g .long)) in omega arith
           ];
-          taken = λ v l on c r. omega (arith, g .many, serves v l on c r, q .taken v l (λ x e. (rw (g .slots) at on) x (s .old x e)) c r);
+          taken = λ v l on c r. omega (arith, g .many, serves v l on c r, q .taken v l (λ x e. (rw (g .slots) at on) x (s .exactly x .1 (inl e))) c r);
         }
 
 module _ (p : Task) (at : ℕ) (b : List ℕ) (rows : Rows) where

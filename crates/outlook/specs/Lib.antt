@@ -1,2 +1,3 @@
 pub mod Failure
 pub mod Outlook
+pub mod Seen

@@ -2,22 +2,25 @@
 -- Each source subgoal of the same use wants a row with a target that it may still become.
 use mathlib.Core.Bool.{Bool, true, false}
 use mathlib.Core.Path.{_≡_}
-use mathlib.Core.Logic.{_↔_}
+use mathlib.Core.Logic.{_⊎_, _↔_}
 use mathlib.Core.List.{List}
 use Prim.Native.Nat.{ℕ, suc, _+_, _*_, _/_, _%_, _^_, _<_, _≤_}
 use lib.ListN.{length, getD, replicate}
 use Rattle.bits.specs.Sets.{Has}
 use Rattle.slots.specs.Task.{Task, goals, targets, sourceRelation, sourceTerm, targetRelation, targetTerm, widthOf, rowOf}
-use Rattle.outlook.specs.Failure.{Failed}
 use Rattle.slots.specs.Steps.{stood, noReasons}
-use Rattle.slots.specs.declared.Rows.{Rows}
 use Rattle.outlook.specs.declared.Outlook.{Outlook}
 use Rattle.outlook.specs.declared.Wants.{Wants}
 
--- no use ends before the last of the source subgoals from at up to end
+-- the source subgoal i is of the same use as the source subgoal at, and none before it: no use ends between them
+pub record SameUse (lasts : List ℕ) (at i : ℕ) : Type 0 where
+  pub from : at ≤ i
+  pub there : i < length lasts
+  pub one : (j : ℕ) → at ≤ j → j < i → getD lasts j 0 ≡ 0
+
+-- from at up to end there are those of the same use, and no others
 pub record UseEnd (lasts : List ℕ) (at end : ℕ) : Type 0 where
-  pub within : end ≤ length lasts
-  pub one : (i : ℕ) → at ≤ i → suc i < end → getD lasts i 0 ≡ 0
+  pub exactly : (i : ℕ) → ((at ≤ i) × (i < end)) ↔ SameUse lasts at i
 
 -- the source term x may still become y: it is not bound, or to that
 abbrev pub MayBecome : List ℕ → ℕ → ℕ → Type 0
@@ -43,13 +46,27 @@ pub record Readable (p : Task) (i : ℕ) : Type 0 where
 pub record Offered (p : Task) (b : List ℕ) (allowed i k : ℕ) (answer : Bool) : Type 0 where
   pub exactly : (answer ≡ true) ↔ (Has allowed (rowOf p k) × Suits p b i k)
 
--- all rows of the set `allowed` with a target for the source subgoal i, unless one that is in use is among them
+-- the row x has a target that the source subgoal i may still become
+pub record HasTarget (p : Task) (b : List ℕ) (i x : ℕ) : Type 0 where
+  pub k : ℕ
+  pub within : k < targets p
+  pub row : rowOf p k ≡ x
+  pub fits : Suits p b i k
+
+-- rows of the set `allowed` with a target for the source subgoal i: all of them, unless one that is in use is among them
 pub record Offers (p : Task) (b : List ℕ) (used allowed i rows : ℕ) : Type 0 where
+  pub only : (x : ℕ) → Has rows x → Has allowed x × HasTarget p b i x
   pub each : ((x : ℕ) → Has rows x → Has used x → ⊥) → (k : ℕ) → k < targets p → Has allowed (rowOf p k) → Suits p b i k → Has rows (rowOf p k)
 
+-- x is a slot of the source subgoal i
+pub record SlotOf (p : Task) (i x : ℕ) : Type 0 where
+  pub a : ℕ
+  pub counts : a < widthOf p i
+  pub is : sourceTerm p i a ≡ x
+  pub slot : x < 64
+
 pub record SlotsOf (p : Task) (i set slots : ℕ) : Type 0 where
-  pub old : (x : ℕ) → Has set x → Has slots x
-  pub new : (a : ℕ) → a < widthOf p i → sourceTerm p i a < 64 → Has slots (sourceTerm p i a)
+  pub exactly : (x : ℕ) → Has slots x ↔ (Has set x ⊎ SlotOf p i x)
 
 unfoldable pub memberOf : ℕ → ℕ → ℕ
 memberOf set x = set / 2 ^ x % 2
@@ -72,13 +89,10 @@ pub record Wanting (w : Wants) (rows set : ℕ) (more : Wants) : Type 0 where
 -- m is the largest of the 64
 pub record Most (l : List ℕ) (m : ℕ) : Type 0 where
   pub each : (x : ℕ) → x < 64 → getD l x 0 ≤ m
-  pub least : (n : ℕ) → ((x : ℕ) → x < 64 → getD l x 0 ≤ n) → m ≤ n
+  pub one : (x : ℕ) × (x < 64) × (getD l x 0 ≡ m)
 
 abbrev pub fairly : Outlook
 fairly = record { vain = false; why = noReasons }
 
 abbrev pub vainly : ℕ → Bool → Outlook
 vainly slots short = record { vain = true; why = record { slots = slots; short = short } }
-
-pub record Outlooks (p : Task) (at : ℕ) (b : List ℕ) (rows : Rows) (r : Outlook) : Type 0 where
-  pub vain : r .vain ≡ true → Failed p at b rows (r .why)

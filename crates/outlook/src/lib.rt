@@ -2,11 +2,13 @@
 // Each subgoal of the same use wants a row with a target that it may still become. Where no row has one, or where more rows are wanted than are left, no target need be tried.
 ghost use mathlib.Core.Path.{_≡_};
 ghost use mathlib.Core.Bool.{true};
+ghost use mathlib.Core.Logic.{_↔_};
 ghost use mathlib.Core.List.{[]};
 ghost use Prim.Native.Nat.{_*_, _<_, _≤_, max};
 ghost use lib.ListN.{length};
 ghost use Rattle.slots.specs.Task.{posed, Sized};
-ghost use Rattle.outlook.specs.Outlook.{UseEnd, Clashes, Readable, Offered, Offers, SlotsOf, Steady, Wanting, Most, Outlooks, fairly, vainly, noWants, memberOf};
+ghost use Rattle.outlook.specs.Outlook.{UseEnd, Clashes, Readable, Offered, Offers, SlotsOf, Steady, Wanting, Most, fairly, vainly, noWants, memberOf};
+ghost use Rattle.outlook.specs.Seen.{Outlooks};
 use slots::Reasons;
 use slots::Rows;
 use slots::alike;
@@ -193,13 +195,14 @@ fn most(served: &[u64; 64]) -> u64
 
 // Whether so many are more than the rows left can have targets for, where each has at most so many.
 fn beyond(many: u64, left: usize, each: u64) -> bool
+    requires { ⌜ many ≤ 96 ⌝ }
     requires { ⌜ each ≤ 96 ⌝ }
-    ensures { λ r. ⌜ (r ≡ true → left * each < many) ⌝ }
+    ensures { λ r. ⌜ (r ≡ true) ↔ (left * each < many) ⌝ }
 {
-    if 96 < left {
-        return false;
+    if left < 96 {
+        return left as u64 * each < many;
     }
-    left as u64 * each < many
+    96 * each < many
 }
 
 // What is seen of the source subgoal `at` and the others of its use.

@@ -17,7 +17,7 @@ use Rattle.outlook.specs.Failure.{AgreesOn, Failed}
 use Rattle.placing.specs.Answer.{Completion, Afforded, Answer}
 use Rattle.slots.specs.Steps.{Opened, Entering, Hopeless, Settled, entering, seeing}
 use Rattle.placing.specs.Steps.{carrying, found, failed}
-use Rattle.outlook.specs.Outlook.{Outlooks}
+use Rattle.outlook.specs.Seen.{Outlooks}
 use Rattle.slots.specs.declared.Reasons.{Reasons}
 use Rattle.placing.specs.declared.Placed.{Placed}
 use Rattle.slots.specs.declared.Rows.{Rows}

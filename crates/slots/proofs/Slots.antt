@@ -1,6 +1,7 @@
 -- Slots and other words: what they become, what they stand for, and how they are noted.
 use mathlib.Core.Path.{_≡_, refl, sym, _∙_}
 use mathlib.Core.Bool.{true, false}
+use mathlib.Core.Logic.{_⊎_, inl, inr, ⊎-elim}
 use mathlib.Core.List.{List}
 use Prim.Native.Nat.{ℕ, _/_, _%_, _<_, _≤_}
 use native.Mathlib.Omega.{arith}
@@ -9,7 +10,7 @@ use lib.ListN.{getD}
 use lib.Dec.{eqb}
 use borrow.Author.Tests.{lt-ltb, le-ltb, eqb-true, eqb-false, eq-eqb, ne-eqb}
 use Rattle.bits.specs.Sets.{Has, with}
-use Rattle.bits.proofs.Laws.{with-new, with-old}
+use Rattle.bits.proofs.Laws.{with-new, with-old, with-cases}
 use Rattle.slots.specs.Task.{valueOf}
 use Rattle.slots.specs.Steps.{stood, noting}
 
@@ -55,6 +56,12 @@ pub noting-old : (s x y : ℕ) → Has s y → Has (noting s x) y
 noting-old s x y h = elim (decLt x 64) [
   | yes i ↦ rw (noting-slot s x i) (with-old s x y h)
   | no i ↦ rw (noting-word s x (omega arith)) h
+]
+
+pub noting-cases : (s x y : ℕ) → Has (noting s x) y → Has s y ⊎ ((y ≡ x) × (x < 64))
+noting-cases s x y h = elim (decLt x 64) [
+  | yes i ↦ ⊎-elim (λ o. inl o) (λ e. inr (e, i)) (with-cases s x y (rw (noting-slot s x i) at h))
+  | no i ↦ inl (rw (noting-word s x (omega arith)) at h)
 ]
 
 -- two words are the same exactly if their tags and their numbers are

@@ -1,12 +1,11 @@
 use borrow.Author.Needs.{needs}
-use mathlib.Core.Path.{sym, subst, _∙_}
+use mathlib.Core.Path.{sym, _∙_}
 use Prim.Native.Nat.{_-_}
 use native.Mathlib.Omega.{arith}
 use borrow.Author.Tests.{not-true, not-false}
 use mathlib.Core.List.{[]}
 use Rattle.slots.specs.Task.{posed}
-use Rattle.outlook.specs.Outlook.{Offered}
-use Rattle.outlook.proofs.Looking.{Offering, offering-start, offering-none, offering-more, offers-used, offers-all}
+use Rattle.outlook.proofs.Looking.{Offering, offered-as, offering-start, offering-none, offering-more, offers-used, offers-all}
 use Rattle.outlook.proofs.offers.Statement.{statement}
 use Rattle.outlook.proofs.offers.Tie as tie
 
@@ -27,8 +26,7 @@ offered-requires c κs =
 loop-again : tie.Need-loop-again Inv-loop μ-loop
 loop-again c =
     let lp = c .before .before .before in
-    let st = lp .before .before .before .before .before in
-    offering-none _ _ _ _ _ _ (lp .loop .inv) (subst (λ r. Offered (posed (st .args .source .now) (st .args .widths .now) [] (st .args .target .now) (st .args .own .now)) (st .args .b .now) (st .args .allowed) (st .args .i) (lp .loop .k) r) (not-true _ (c .if1 .taken)) (c .before .offered .ensures))
+    offering-none _ _ _ _ _ _ (lp .loop .inv) (offered-as _ _ _ _ _ _ _ (not-true _ (c .if1 .taken)) (c .before .offered .ensures))
 
 cast-add : tie.Need-cast-add Inv-loop μ-loop
 cast-add c =
@@ -55,12 +53,14 @@ holds-requires c κs =
     st .pre .rows (lp .loop .k)
 
 returns : tie.Need-returns Inv-loop μ-loop
-returns c = rw (c .before .before .before .add .ensures) (offers-used _ _ _ _ _ _ _ (sym (c .before .holds .ensures) ∙ c .if2 .taken))
+returns c =
+    let lp = c .before .before .before .before .before .before .before .before in
+    rw (c .before .before .before .add .ensures) (offers-used _ _ _ _ _ _ (c .before .before .before .before .before .before .before .loop-test .taken) (lp .loop .inv) (offered-as _ _ _ _ _ _ _ (not-false _ (c .before .before .before .before .before .if1 .left)) (c .before .before .before .before .before .before .offered .ensures)) _ (sym (c .before .holds .ensures) ∙ c .if2 .taken))
 
 loop-again-2 : tie.Need-loop-again-2 Inv-loop μ-loop
 loop-again-2 c =
     let lp = c .before .before .before .before .before .before .before .before in
-    rw (c .before .before .before .add .ensures) (offering-more _ _ _ _ _ _ (lp .loop .inv))
+    rw (c .before .before .before .add .ensures) (offering-more _ _ _ _ _ _ (c .before .before .before .before .before .before .before .loop-test .taken) (lp .loop .inv) (offered-as _ _ _ _ _ _ _ (not-false _ (c .before .before .before .before .before .if1 .left)) (c .before .before .before .before .before .before .offered .ensures)))
 
 returns-2 : tie.Need-returns-2 Inv-loop μ-loop
 returns-2 c = offers-all _ _ _ _ _ _ _ (c .loop-test .left) (c .before .loop .inv)

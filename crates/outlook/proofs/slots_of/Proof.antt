@@ -27,7 +27,7 @@ loop-again c =
     (omega arith, rw (c .noted .ensures) (slotted-more _ _ _ _ _ (lp .loop .inv .1)))
 
 returns : tie.Need-returns Inv-loop μ-loop
-returns c = slotted-end _ _ _ _ _ (omega (arith, c .before .before .width .ensures .0, c .loop-test .left)) (c .before .loop .inv .1)
+returns c = slotted-end _ _ _ _ _ (omega (arith, c .before .before .width .ensures .0, c .loop-test .left, c .before .loop .inv .0)) (c .before .loop .inv .1)
 
 pub slots-of-spec : {M : Type 1} → statement M
 slots-of-spec =

@@ -16,7 +16,7 @@ loop-holds c = going-start _ _
 returns : tie.Need-returns Inv-loop μ-loop
 returns c =
     let lp = c .before .before .before in
-    going-ends _ _ _ (c .before .before .loop-test .taken) (lp .loop .inv)
+    going-ends _ _ _ (c .before .before .loop-test .taken) (lp .loop .inv) (c .if1 .taken)
 
 loop-again : tie.Need-loop-again Inv-loop μ-loop
 loop-again c =
