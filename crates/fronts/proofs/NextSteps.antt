@@ -9,11 +9,11 @@ use lib.Seq.{getD-take, take-take}
 use Rattle.words.specs.Order.{ListBefore, First}
 use Rattle.placing.specs.Task.{Task, targets}
 use Rattle.placing.specs.declared.Places.{Places}
-use Rattle.rows.specs.RowPlaces.{HeadTask, PlacesWith, AtRow, RowFront, AtFront, OnTargets, Begins, NextPlace, StartPlaces, NextPlaces}
-use Rattle.rows.specs.Steps.{InReach}
-use Rattle.rows.proofs.Fronts.{front-put}
-use Rattle.rows.proofs.RowFronts.{row-front, row-stands}
-use Rattle.rows.proofs.NextLaw.{Gone, gone-more, next-none, next-found}
+use Rattle.fronts.specs.RowPlaces.{HeadTask, PlacesWith, AtRow, RowFront, AtFront, OnTargets, Begins, NextPlace, StartPlaces, NextPlaces}
+use Rattle.fronts.specs.Steps.{InReach}
+use Rattle.fronts.proofs.Fronts.{front-put}
+use Rattle.fronts.proofs.RowFronts.{row-front, row-stands}
+use Rattle.fronts.proofs.NextLaw.{Gone, gone-more, next-none, next-found}
 
 -- at the start no place is bound
 module _ (p : Task) (h : ℕ) (ready : HeadTask p h) (ks : List ℕ) where

@@ -1,6 +1,6 @@
-use Rattle.rows.proofs.NextSteps.{start-on, start-at, start-found, start-none}
-use Rattle.rows.proofs.first_row.Statement.{statement}
-use Rattle.rows.proofs.first_row.Tie as tie
+use Rattle.fronts.proofs.NextSteps.{start-on, start-at, start-found, start-none}
+use Rattle.fronts.proofs.first_row.Statement.{statement}
+use Rattle.fronts.proofs.first_row.Tie as tie
 
 row-begins-requires : tie.Need-row-begins-requires
 row-begins-requires c κs = start-on _ _ (c .before .before .before .before .before .pre) _

@@ -1,9 +1,9 @@
 use borrow.Author.Needs.{needs}
 use Prim.Native.Nat.{_-_}
 use Rattle.placing.specs.Task.{posed}
-use Rattle.rows.proofs.FillLaw.{Filled, filled-start, filled-more, filled-end}
-use Rattle.rows.proofs.row_with.Statement.{statement}
-use Rattle.rows.proofs.row_with.Tie as tie
+use Rattle.fronts.proofs.FillLaw.{Filled, filled-start, filled-more, filled-end}
+use Rattle.fronts.proofs.row_with.Statement.{statement}
+use Rattle.fronts.proofs.row_with.Tie as tie
 
 abbrev Inv-loop : tie.InvT-loop
 Inv-loop source widths lasts target own head j all₀ i₀ all i = Filled (posed source widths lasts target own) head j all₀ i all

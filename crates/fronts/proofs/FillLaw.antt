@@ -10,9 +10,9 @@ use lib.Seq.{length-take-le, take-all, take-at, take-take, take-set-le}
 use Rattle.words.specs.Order.{ListBefore, First}
 use Rattle.placing.specs.Task.{Task}
 use Rattle.placing.specs.declared.Places.{Places}
-use Rattle.rows.specs.RowPlaces.{RowPlaces, PlacesWith, RowFront, AtFront, GoesOn, NextPlace}
-use Rattle.rows.proofs.Fronts.{front-same, front-before, front-last, front-put}
-use Rattle.rows.proofs.RowFronts.{goes-on, front-row, front-long, front-begins}
+use Rattle.fronts.specs.RowPlaces.{RowPlaces, PlacesWith, RowFront, AtFront, GoesOn, NextPlace}
+use Rattle.fronts.proofs.Fronts.{front-same, front-before, front-last, front-put}
+use Rattle.fronts.proofs.RowFronts.{goes-on, front-row, front-long, front-begins}
 
 -- the first i of `all` are the first front of that length, of rows that begin with the first j of ks
 pub record Filled (p : Task) (h j : ℕ) (ks : List ℕ) (i : ℕ) (all : List ℕ) : Type 0 where
