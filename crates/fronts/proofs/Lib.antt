@@ -8,3 +8,4 @@ pub mod PlaceLaw
 pub mod FillLaw
 pub mod NextLaw
 pub mod NextSteps
+pub mod Unique

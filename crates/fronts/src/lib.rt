@@ -2,7 +2,7 @@
 // begins so, by the search for places of the body.
 ghost use mathlib.Core.Path.{_≡_};
 ghost use Prim.Native.Nat.{_*_, _<_, _≤_};
-ghost use lib.ListN.{length, take};
+ghost use lib.ListN.{length, take, drop};
 ghost use Rattle.placing.specs.Task.{posed};
 ghost use Rattle.words.specs.Order.{ListBefore, First};
 ghost use Rattle.fronts.specs.RowPlaces.{HeadTask, AtRow, AtFront, OnTargets, PlacesWith, StartPlaces, NextPlaces, Begins, NextPlace};
@@ -103,7 +103,7 @@ fn row_with(
     ks: [u16; 96],
 ) -> [u16; 96]
     requires { ⌜ AtFront (posed (now source) (now widths) (now lasts) (now target) (now own)) head j ks ⌝ }
-    ensures { λ r. ⌜ First (PlacesWith (posed (now (source .entry)) (now (widths .entry)) (now (lasts .entry)) (now (target .entry)) (now (own .entry))) head j ks) (ListBefore _<_) (take head r) ⌝ }
+    ensures { λ r. ⌜ First (PlacesWith (posed (now (source .entry)) (now (widths .entry)) (now (lasts .entry)) (now (target .entry)) (now (own .entry))) head j ks) (ListBefore _<_) (take head r) × (drop head r ≡ drop head ks) ⌝ }
 {
     let mut all = ks;
     let mut i = j;
