@@ -16,9 +16,9 @@ use Rattle.ties.proofs.AtPlaces.{getD-in}
 use Rattle.ties.proofs.AtWords.{nothing, map-get, relation-at, term-at, width-at}
 use Rattle.ties.proofs.Sizes.{sized}
 use Rattle.rows.specs.RowTask.{headRelation, alone, placed, onto, rowTask, TaskOf}
-use Rattle.rows.specs.RowPlaces.{headTerm, HeadTask}
-use Rattle.rows.proofs.OneUse.{Stands, completes-stand}
-use Rattle.rows.proofs.Fixing.{term-only}
+use Rattle.fronts.specs.RowPlaces.{headTerm, HeadTask}
+use Rattle.fronts.proofs.OneUse.{Stands, completes-stand}
+use Rattle.fronts.proofs.Fixing.{term-only}
 use Rattle.rows.proofs.TaskLaws.{fit-other, zeros, parts, room, alike, placed-long, onto-long, small}
 
 pub variable : (ts : List (Term ℕ)) → DistinctVariables ts → (t : Term ℕ) → t ∈ ts → (x : ℕ) × (t ≡ var x)

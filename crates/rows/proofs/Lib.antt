@@ -1,11 +1,3 @@
-pub mod Fronts
-pub mod OneUse
-pub mod Fixing
-pub mod RowFronts
-pub mod BeginLaw
-pub mod PlaceLaw
-pub mod FillLaw
-pub mod NextLaw
 pub mod TaskLaws
 pub mod HeadLaws
 pub mod AtTerms
@@ -13,7 +5,6 @@ pub mod RowTies
 pub mod RowOrder
 pub mod Copying
 pub mod RowWords
-pub mod NextSteps
 pub mod Residual
 pub mod RowsExist
 pub mod Written

@@ -10,7 +10,7 @@ use Rattle.words.specs.Words.{Term, Rule}
 use Rattle.placing.specs.Task.{Task}
 use Rattle.placing.specs.declared.Places.{Places}
 use Rattle.rows.specs.RowTask.{TaskOf}
-use Rattle.rows.specs.RowPlaces.{HeadTask, RowPlaces, AtRow, StartPlaces, NextPlaces}
+use Rattle.fronts.specs.RowPlaces.{HeadTask, RowPlaces, AtRow, StartPlaces, NextPlaces}
 use Rattle.rows.specs.Steps.{rowWords}
 use Rattle.rows.specs.RowsAfter.{mostRows, Asked, Promised}
 use Rattle.rows.proofs.HeadLaws.{row-ready}

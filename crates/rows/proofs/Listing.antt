@@ -14,7 +14,7 @@ use Rattle.words.specs.Orders.{rowOrder}
 use Rattle.placing.specs.Task.{Task}
 use Rattle.placing.specs.declared.Places.{Places}
 use Rattle.rows.specs.RowTask.{TaskOf}
-use Rattle.rows.specs.RowPlaces.{StartPlaces, NextPlaces}
+use Rattle.fronts.specs.RowPlaces.{StartPlaces, NextPlaces}
 use Rattle.rows.specs.Steps.{rowWords}
 use Rattle.rows.specs.RowsAfter.{RowBy, mostRows, RowsAfter}
 use Rattle.rows.proofs.AtTerms.{Stand}

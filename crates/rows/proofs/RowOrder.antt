@@ -9,7 +9,7 @@ use Rattle.words.specs.Words.{Term, Subgoal, Rule}
 use Rattle.words.specs.Order.{RowBefore, ListBefore, First}
 use Rattle.placing.specs.Task.{Task}
 use Rattle.rows.specs.RowTask.{TaskOf}
-use Rattle.rows.specs.RowPlaces.{RowPlaces, LaterPlaces}
+use Rattle.fronts.specs.RowPlaces.{RowPlaces, LaterPlaces}
 use Rattle.rows.specs.RowsAfter.{RowBy}
 use Rattle.rows.proofs.AtTerms.{Stand, stand-same, stand-before, before-stand}
 use Rattle.rows.proofs.RowTies.{row-out, row-in}

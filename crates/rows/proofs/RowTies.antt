@@ -8,7 +8,7 @@ use lib.ListN.{length, length-map}
 use Rattle.words.specs.Words.{_∈_, Term, con, Subgoal, Rule, Fits, Listed, becomes, each, Yields}
 use Rattle.placing.specs.Task.{Task}
 use Rattle.rows.specs.RowTask.{alone, placed, onto, TaskOf}
-use Rattle.rows.specs.RowPlaces.{RowPlaces}
+use Rattle.fronts.specs.RowPlaces.{RowPlaces}
 use Rattle.rows.proofs.TaskLaws.{fit-other, row-sent}
 use Rattle.rows.proofs.HeadLaws.{variable}
 use Rattle.rows.proofs.AtTerms.{Stand, stand-long, stand-split, stand-join, stand-of, front-place, stand-front}

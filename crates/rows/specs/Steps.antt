@@ -1,25 +1,9 @@
--- What the steps of the listing do, as they do it.
-use mathlib.Core.Bool.{cond}
+-- The words that are written for a row.
 use mathlib.Core.List.{List, _∷_, map}
-use Prim.Native.Nat.{ℕ, zero, suc, _+_, _*_, _<_, _≤_}
-use lib.ListN.{length, getD, set, replicate}
-use lib.Dec.{ltb}
+use Prim.Native.Nat.{ℕ, _+_, _*_}
+use lib.ListN.{getD}
 use Rattle.coding.specs.Code.{padded}
-
--- the bindings with the word y for the source term x, if that is a slot
-abbrev pub binding : List ℕ → ℕ → ℕ → List ℕ
-binding g x y = cond (ltb x 64) (set g x y) g
-
--- the bindings that put the first j source subgoals, of one term each, on the targets ks
-unfoldable pub fixing : List ℕ → List ℕ → List ℕ → ℕ → List ℕ
-fixing source target ks zero = replicate 64 0
-fixing source target ks (suc j) = binding (fixing source target ks j) (getD source (9 * j + 1) 0) (getD target (9 * getD ks j 0 + 1) 0)
 
 -- the words of a row: its summary's number, and the words of the terms that are the targets js
 unfoldable pub rowWords : ℕ → List ℕ → List ℕ → List ℕ
 rowWords number target js = number ∷ padded 8 (map (λ k. getD target (9 * k + 1) 0) js)
-
--- the first j of the targets ks have their words; at most 8, "a head (0 to 8 terms)"
-pub record InReach (target ks : List ℕ) (j : ℕ) : Type 0 where
-  pub few : j ≤ 8
-  pub targets : (i : ℕ) → i < j → 9 * getD ks i 0 + 1 < length target

@@ -2,7 +2,7 @@ use Prim.Native.Nat.{_-_}
 use native.Mathlib.Omega.{arith}
 use Rattle.placing.specs.Task.{posed}
 use Rattle.rows.proofs.ListSteps.{State, fewer, head-task, state-start, at-row, room, state-more, state-over, state-end}
-use Rattle.rows.proofs.NextSteps.{row-reach}
+use Rattle.fronts.proofs.NextSteps.{row-reach}
 use Rattle.rows.proofs.rows_of.Statement.{statement}
 use Rattle.rows.proofs.rows_of.Tie as tie
 

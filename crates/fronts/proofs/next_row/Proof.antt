@@ -2,10 +2,10 @@ use borrow.Author.Needs.{needs}
 use Prim.Native.Nat.{_≤_, _-_}
 use native.Mathlib.Omega.{arith}
 use Rattle.placing.specs.Task.{posed}
-use Rattle.rows.proofs.NextLaw.{Gone, gone-start}
-use Rattle.rows.proofs.NextSteps.{place-within, row-at, found-none, found-not, found-at, found-row}
-use Rattle.rows.proofs.next_row.Statement.{statement}
-use Rattle.rows.proofs.next_row.Tie as tie
+use Rattle.fronts.proofs.NextLaw.{Gone, gone-start}
+use Rattle.fronts.proofs.NextSteps.{place-within, row-at, found-none, found-not, found-at, found-row}
+use Rattle.fronts.proofs.next_row.Statement.{statement}
+use Rattle.fronts.proofs.next_row.Tie as tie
 
 abbrev Inv-loop : tie.InvT-loop
 Inv-loop source widths lasts target own head ks j₀ j = (j ≤ head) × Gone (posed source widths lasts target own) head ks j

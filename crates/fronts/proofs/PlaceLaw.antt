@@ -9,10 +9,10 @@ use native.Mathlib.Decide.{decLt}
 use lib.ListN.{length, getD, set, take, length-append, List·getD-append}
 use lib.Seq.{getD-set-same, getD-set-other, getD-append-add}
 use Rattle.placing.specs.Task.{Task, targets, sourceRelation, targetRelation}
-use Rattle.rows.specs.RowPlaces.{RowFront, AtFront, OnTargets, Begins, GoesOn, NextPlace}
-use Rattle.rows.proofs.Fronts.{front-put}
-use Rattle.rows.proofs.OneUse.{Stands}
-use Rattle.rows.proofs.RowFronts.{values, row-stands, front-long, front-stands}
+use Rattle.fronts.specs.RowPlaces.{RowFront, AtFront, OnTargets, Begins, GoesOn, NextPlace}
+use Rattle.fronts.proofs.Fronts.{front-put}
+use Rattle.fronts.proofs.OneUse.{Stands}
+use Rattle.fronts.proofs.RowFronts.{values, row-stands, front-long, front-stands}
 
 -- no target before `next` is one
 pub record Passed (p : Task) (h j : ℕ) (ks : List ℕ) (from next : ℕ) : Type 0 where

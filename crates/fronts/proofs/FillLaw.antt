@@ -5,26 +5,27 @@ use mathlib.Core.Bool.{Bool, true, false}
 use mathlib.Core.List.{List, [], _∷_, _++_}
 use Prim.Native.Nat.{ℕ, _+_, _<_, _≤_}
 use native.Mathlib.Omega.{arith}
-use lib.ListN.{length, getD, set, take, length-set}
-use lib.Seq.{length-take-le, take-all, take-at, take-take, take-set-le}
+use lib.ListN.{length, getD, set, take, drop, length-set}
+use lib.Seq.{length-take-le, take-all, take-at, take-take, take-set-le, drop-set-lt}
 use Rattle.words.specs.Order.{ListBefore, First}
 use Rattle.placing.specs.Task.{Task}
 use Rattle.placing.specs.declared.Places.{Places}
-use Rattle.rows.specs.RowPlaces.{RowPlaces, PlacesWith, RowFront, AtFront, GoesOn, NextPlace}
-use Rattle.rows.proofs.Fronts.{front-same, front-before, front-last, front-put}
-use Rattle.rows.proofs.RowFronts.{goes-on, front-row, front-long, front-begins}
+use Rattle.fronts.specs.RowPlaces.{RowPlaces, PlacesWith, RowFront, AtFront, GoesOn, NextPlace}
+use Rattle.fronts.proofs.Fronts.{front-same, front-before, front-last, front-put}
+use Rattle.fronts.proofs.RowFronts.{goes-on, front-row, front-long, front-begins}
 
--- the first i of `all` are the first front of that length, of rows that begin with the first j of ks
+-- the first i of `all` are the first front of that length, of rows that begin with the first j of ks; behind the head `all` is ks
 pub record Filled (p : Task) (h j : ℕ) (ks : List ℕ) (i : ℕ) (all : List ℕ) : Type 0 where
   pub long : length all ≡ 96
   pub on : j ≤ i
   pub begins : take j all ≡ take j ks
+  pub behind : drop h all ≡ drop h ks
   pub at : AtFront p h i all
   pub least : (js : List ℕ) → PlacesWith p h j ks js → (take i all ≡ take i js) ⊎ ListBefore _<_ (take i all) (take i js)
 
 module _ (p : Task) (h j : ℕ) (ks : List ℕ) where
   pub filled-start : length ks ≡ 96 → AtFront p h j ks → Filled p h j ks j ks
-  filled-start long at = record { long = long; on = omega arith; begins = refl; at = at; least = λ js y. inl (sym (y .begins)) }
+  filled-start long at = record { long = long; on = omega arith; begins = refl; behind = refl; at = at; least = λ js y. inl (sym (y .begins)) }
 
   module _ (i : ℕ) (all : List ℕ) (s : Filled p h j ks i all) where
     module _ (low : i < h) (r : Places) (next : NextPlace p h i all 0 r) where
@@ -63,6 +64,7 @@ module _ (p : Task) (h j : ℕ) (ks : List ℕ) where
         long = length-set all i k ∙ s .long;
         on = omega (arith, s .on);
         begins = take-set-le j all i k (s .on) ∙ s .begins;
+        behind = drop-set-lt h all i k low ∙ s .behind;
         at = record { task = s .at .task; few = omega arith; front = subst (RowFront p h) (sym put) (first .holds .front) };
         least = λ js y. rw put (least js y);
       }

@@ -4,16 +4,16 @@ use mathlib.Core.Bool.{true, false, true≢false, false≢true}
 use mathlib.Core.List.{List}
 use Prim.Native.Nat.{ℕ, suc, _+_, _-_, _<_, _≤_}
 use native.Mathlib.Omega.{arith}
-use lib.ListN.{length, getD, take}
-use lib.Seq.{getD-take, take-take}
+use lib.ListN.{length, getD, take, drop, replicate}
+use lib.Seq.{getD-take, take-take, drop-set-lt}
 use Rattle.words.specs.Order.{ListBefore, First}
 use Rattle.placing.specs.Task.{Task, targets}
 use Rattle.placing.specs.declared.Places.{Places}
-use Rattle.rows.specs.RowPlaces.{HeadTask, PlacesWith, AtRow, RowFront, AtFront, OnTargets, Begins, NextPlace, StartPlaces, NextPlaces}
-use Rattle.rows.specs.Steps.{InReach}
-use Rattle.rows.proofs.Fronts.{front-put}
-use Rattle.rows.proofs.RowFronts.{row-front, row-stands}
-use Rattle.rows.proofs.NextLaw.{Gone, gone-more, next-none, next-found}
+use Rattle.fronts.specs.RowPlaces.{HeadTask, PlacesWith, AtRow, RowFront, AtFront, OnTargets, Begins, NextPlace, StartPlaces, NextPlaces}
+use Rattle.fronts.specs.Steps.{InReach}
+use Rattle.fronts.proofs.Fronts.{front-put}
+use Rattle.fronts.proofs.RowFronts.{row-front, row-stands}
+use Rattle.fronts.proofs.NextLaw.{Gone, gone-more, next-none, next-found}
 
 -- at the start no place is bound
 module _ (p : Task) (h : ℕ) (ready : HeadTask p h) (ks : List ℕ) where
@@ -23,11 +23,16 @@ module _ (p : Task) (h : ℕ) (ready : HeadTask p h) (ks : List ℕ) where
   pub start-at : Begins p h 0 ks true → AtFront p h 0 ks
   start-at b = record { task = ready; few = omega arith; front = b .exactly .0 refl }
 
-  pub start-none : Begins p h 0 ks false → StartPlaces p h record { ok = false; ks = ks }
-  start-none b = record { found = λ e. absurd (false≢true e); none = λ e js y. false≢true (b .exactly .1 (row-front p h js y 0)) }
+  pub start-none : ks ≡ replicate 96 0 → Begins p h 0 ks false → StartPlaces p h record { ok = false; ks = ks }
+  start-none z b = record { found = λ e. absurd (false≢true e); behind = λ e. absurd (false≢true e); none = λ e js y. false≢true (b .exactly .1 (row-front p h js y 0)); kept = λ e. z }
 
-  pub start-found : (all : List ℕ) → First (PlacesWith p h 0 ks) (ListBefore _<_) (take h all) → StartPlaces p h record { ok = true; ks = all }
-  start-found all f = record { found = λ e. record { holds = f .holds .row; least = λ js y. f .least js record { row = y; begins = refl } }; none = λ e. absurd (true≢false e) }
+  pub start-found : ks ≡ replicate 96 0 → (all : List ℕ) → First (PlacesWith p h 0 ks) (ListBefore _<_) (take h all) × (drop h all ≡ drop h ks) → StartPlaces p h record { ok = true; ks = all }
+  start-found z all f = record {
+    found = λ e. record { holds = f .0 .holds .row; least = λ js y. f .0 .least js record { row = y; begins = refl } };
+    behind = λ e. f .1 ∙ ap (drop h) z;
+    none = λ e. absurd (true≢false e);
+    kept = λ e. absurd (true≢false e);
+  }
 
 module _ (p : Task) (h : ℕ) (ks : List ℕ) (at : AtRow p h ks) where
   -- the head's places have targets
@@ -43,7 +48,12 @@ module _ (p : Task) (h : ℕ) (ks : List ℕ) (at : AtRow p h ks) where
 
   module _ (long : length ks ≡ 96) where
     pub found-none : (j : ℕ) → j ≤ 0 → Gone p h ks j → NextPlaces p h ks record { ok = false; ks = ks }
-    found-none j l gone = record { found = λ e. absurd (false≢true e); none = λ e. next-none p h (at .task) ks long (let q : 0 ≡ j = omega arith in rw q gone) }
+    found-none j l gone = record {
+      found = λ e. absurd (false≢true e);
+      behind = λ e. absurd (false≢true e);
+      none = λ e. next-none p h (at .task) ks long (let q : 0 ≡ j = omega arith in rw q gone);
+      kept = λ e. refl;
+    }
 
     -- place j - 1 is tried, the later ones being gone
     module _ (j : ℕ) (some : 0 < j) (low : j ≤ h) (gone : Gone p h ks j) (r : Places) (place : NextPlace p h (j - 1) ks (getD ks (j - 1) 0 + 1) r) where
@@ -61,5 +71,10 @@ module _ (p : Task) (h : ℕ) (ks : List ℕ) (at : AtRow p h ks) where
           front = subst (RowFront p h) (sym (ap (take (j - 1 + 1)) (place .found ok .1) ∙ front-put ks (j - 1) (place .found ok .0) (omega (arith, at .task .short)))) (place .found ok .2 .holds .front);
         }
 
-        pub found-row : (all : List ℕ) → First (PlacesWith p h (j - 1 + 1) (r .ks)) (ListBefore _<_) (take h all) → NextPlaces p h ks record { ok = true; ks = all }
-        found-row all f = record { found = λ e. next-found p h (at .task) ks long (j - 1) (omega arith) later r place ok (take h all) f; none = λ e. absurd (true≢false e) }
+        pub found-row : (all : List ℕ) → First (PlacesWith p h (j - 1 + 1) (r .ks)) (ListBefore _<_) (take h all) × (drop h all ≡ drop h (r .ks)) → NextPlaces p h ks record { ok = true; ks = all }
+        found-row all f = record {
+          found = λ e. next-found p h (at .task) ks long (j - 1) (omega arith) later r place ok (take h all) (f .0);
+          behind = λ e. f .1 ∙ ap (drop h) (place .found ok .1) ∙ drop-set-lt h ks (j - 1) (place .found ok .0) (omega arith);
+          none = λ e. absurd (true≢false e);
+          kept = λ e. absurd (true≢false e);
+        }

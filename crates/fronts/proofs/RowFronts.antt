@@ -6,9 +6,9 @@ use native.Mathlib.Omega.{arith}
 use lib.ListN.{length, getD, take, drop, length-append, take-append-drop, List·getD-append}
 use lib.Seq.{take-at, getD-take, length-take-le}
 use Rattle.placing.specs.Task.{Task, goals}
-use Rattle.rows.specs.RowPlaces.{HeadTask, RowPlaces, RowFront, AtFront, GoesOn}
-use Rattle.rows.proofs.Fronts.{front-last}
-use Rattle.rows.proofs.OneUse.{Stands, StandFrom, stand-at, mapped-stand}
+use Rattle.fronts.specs.RowPlaces.{HeadTask, RowPlaces, RowFront, AtFront, GoesOn}
+use Rattle.fronts.proofs.Fronts.{front-last}
+use Rattle.fronts.proofs.OneUse.{Stands, StandFrom, stand-at, mapped-stand}
 
 module _ (p : Task) (h : ℕ) (ready : HeadTask p h) (js : List ℕ) (y : RowPlaces p h js) where
   abbrev whole : List ℕ

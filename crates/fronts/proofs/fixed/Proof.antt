@@ -2,10 +2,10 @@ use borrow.Author.Needs.{needs}
 use mathlib.Core.Path.{_≡_}
 use Prim.Native.Nat.{_≤_, _-_}
 use native.Mathlib.Omega.{arith}
-use Rattle.rows.specs.Steps.{fixing}
-use Rattle.rows.proofs.Copying.{fixing-start, fixing-step, fixing-end}
-use Rattle.rows.proofs.fixed.Statement.{statement}
-use Rattle.rows.proofs.fixed.Tie as tie
+use Rattle.fronts.specs.Steps.{fixing}
+use Rattle.fronts.proofs.FixingSteps.{fixing-start, fixing-step, fixing-end}
+use Rattle.fronts.proofs.fixed.Statement.{statement}
+use Rattle.fronts.proofs.fixed.Tie as tie
 
 abbrev Inv-loop : tie.InvT-loop
 Inv-loop source target j ks g₀ i₀ g i = (i ≤ j) × (g ≡ fixing source target ks i)

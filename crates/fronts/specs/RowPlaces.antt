@@ -4,7 +4,7 @@ use mathlib.Core.Logic.{_↔_}
 use mathlib.Core.Bool.{Bool, true, false}
 use mathlib.Core.List.{List, [], _∷_, _++_}
 use Prim.Native.Nat.{ℕ, _+_, _*_, _-_, _<_, _≤_}
-use lib.ListN.{length, getD, set, take}
+use lib.ListN.{length, getD, set, take, drop, replicate}
 use Rattle.words.specs.Order.{ListBefore, First}
 use Rattle.placing.specs.Task.{Task, Sized, goals, targets, sourceRelation, targetRelation, widthOf, lastOf, Agrees, Completes}
 use Rattle.placing.specs.Mapped.{Mapped}
@@ -44,16 +44,18 @@ pub record PlacesWith (p : Task) (h j : ℕ) (ks js : List ℕ) : Type 0 where
   pub row : RowPlaces p h js
   pub begins : take j js ≡ take j ks
 
--- The first of the rows that are ok, or that there is none.
-pub record FirstRow (Ok : List ℕ → Type 0) (h : ℕ) (r : Places) : Type 0 where
+-- The first of the rows that are ok, or that there is none. Behind it stays what stood there before, and where there is none, all of it.
+pub record FirstRow (Ok : List ℕ → Type 0) (h : ℕ) (before : List ℕ) (r : Places) : Type 0 where
   pub found : r .ok ≡ true → First Ok (ListBefore _<_) (take h (r .ks))
+  pub behind : r .ok ≡ true → drop h (r .ks) ≡ drop h before
   pub none : r .ok ≡ false → (js : List ℕ) → Ok js → ⊥
+  pub kept : r .ok ≡ false → r .ks ≡ before
 
 abbrev pub StartPlaces : Task → ℕ → Places → Type 0
-StartPlaces p h = FirstRow (RowPlaces p h) h
+StartPlaces p h = FirstRow (RowPlaces p h) h (replicate 96 0)
 
 abbrev pub NextPlaces : Task → ℕ → List ℕ → Places → Type 0
-NextPlaces p h ks = FirstRow (LaterPlaces p h ks) h
+NextPlaces p h ks = FirstRow (LaterPlaces p h ks) h ks
 
 -- ks begins with a row's places
 pub record AtRow (p : Task) (h : ℕ) (ks : List ℕ) : Type 0 where

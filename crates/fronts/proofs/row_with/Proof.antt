@@ -1,9 +1,9 @@
 use borrow.Author.Needs.{needs}
 use Prim.Native.Nat.{_-_}
 use Rattle.placing.specs.Task.{posed}
-use Rattle.rows.proofs.FillLaw.{Filled, filled-start, filled-more, filled-end}
-use Rattle.rows.proofs.row_with.Statement.{statement}
-use Rattle.rows.proofs.row_with.Tie as tie
+use Rattle.fronts.proofs.FillLaw.{Filled, filled-start, filled-more, filled-end}
+use Rattle.fronts.proofs.row_with.Statement.{statement}
+use Rattle.fronts.proofs.row_with.Tie as tie
 
 abbrev Inv-loop : tie.InvT-loop
 Inv-loop source widths lasts target own head j all₀ i₀ all i = Filled (posed source widths lasts target own) head j all₀ i all
@@ -21,7 +21,7 @@ loop-again : tie.Need-loop-again Inv-loop μ-loop
 loop-again c = filled-more _ _ _ _ _ _ (c .before .before .before .loop .inv) (c .before .before .loop-test .taken) _ (c .before .next-place .ensures)
 
 returns : tie.Need-returns Inv-loop μ-loop
-returns c = filled-end _ _ _ _ _ _ (c .before .loop .inv) (c .loop-test .left)
+returns c = (filled-end _ _ _ _ _ _ (c .before .loop .inv) (c .loop-test .left), c .before .loop .inv .behind)
 
 pub row-with-spec : {M : Type 1} → statement M
 row-with-spec = tie.close (tie.spec Inv-loop μ-loop loop-holds next-place-requires (λ c. search needs) (λ c. search needs) loop-again returns)

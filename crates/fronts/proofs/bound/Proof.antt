@@ -1,7 +1,7 @@
 use borrow.Author.Needs.{needs}
 use borrow.Author.Tests.{lt-ltb, le-ltb}
-use Rattle.rows.proofs.bound.Statement.{statement}
-use Rattle.rows.proofs.bound.Tie as tie
+use Rattle.fronts.proofs.bound.Statement.{statement}
+use Rattle.fronts.proofs.bound.Tie as tie
 
 returns : tie.Need-returns
 returns c = simp (lt-ltb _ _ (c .if1 .taken))

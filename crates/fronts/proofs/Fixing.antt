@@ -11,8 +11,8 @@ use lib.Dec.{ltb}
 use borrow.Author.Tests.{ltb-true, lt-ltb}
 use Rattle.placing.specs.Task.{Task, sourceRelation, targetRelation, widthOf, valueOf, Agrees, Extends}
 use Rattle.placing.proofs.Slots.{value-slot}
-use Rattle.rows.specs.RowPlaces.{headTerm, OnTargets}
-use Rattle.rows.specs.Steps.{binding, fixing}
+use Rattle.fronts.specs.RowPlaces.{headTerm, OnTargets}
+use Rattle.fronts.specs.Steps.{binding, fixing}
 
 nothing-bound : (x : ℕ) → _≡_ {A = ℕ} (getD (replicate 64 0) x 0) 0
 nothing-bound x = go (decLt x 64)

@@ -1,7 +1,7 @@
 use borrow.Author.Needs.{needs}
-use Rattle.rows.proofs.BeginLaw.{in-reach, in-source, begins}
-use Rattle.rows.proofs.row_begins.Statement.{statement}
-use Rattle.rows.proofs.row_begins.Tie as tie
+use Rattle.fronts.proofs.BeginLaw.{in-reach, in-source, begins}
+use Rattle.fronts.proofs.row_begins.Statement.{statement}
+use Rattle.fronts.proofs.row_begins.Tie as tie
 
 fixed-requires : tie.Need-fixed-requires
 fixed-requires c κs = (in-reach _ _ _ _ (search needs) (c .before .before .before .before .before .pre), in-source _ _ _ _ (search needs) (c .before .before .before .before .before .pre))

@@ -10,9 +10,9 @@ use lib.Seq.{length-take-le, take-set-le, take-take, getD-take}
 use Rattle.words.specs.Order.{ListBefore, First}
 use Rattle.placing.specs.Task.{Task}
 use Rattle.placing.specs.declared.Places.{Places}
-use Rattle.rows.specs.RowPlaces.{HeadTask, RowPlaces, LaterPlaces, PlacesWith, GoesOn, NextPlace}
-use Rattle.rows.proofs.Fronts.{front-same, front-split, front-decides, front-last, front-put, split-later}
-use Rattle.rows.proofs.RowFronts.{goes-on}
+use Rattle.fronts.specs.RowPlaces.{HeadTask, RowPlaces, LaterPlaces, PlacesWith, GoesOn, NextPlace}
+use Rattle.fronts.proofs.Fronts.{front-same, front-split, front-decides, front-last, front-put, split-later}
+use Rattle.fronts.proofs.RowFronts.{goes-on}
 
 -- no row comes after ks and has its first j places
 pub Gone : Task → ℕ → List ℕ → ℕ → Type 0

@@ -11,11 +11,11 @@ use Rattle.words.specs.Order.{ListBefore, First}
 use Rattle.placing.specs.Task.{Task, goals, targets}
 use Rattle.placing.specs.Answer.{Completion, PlacesFrom}
 use Rattle.placing.specs.declared.Places.{Places}
-use Rattle.rows.specs.RowPlaces.{RowFront, OnTargets, Begins}
-use Rattle.rows.specs.Steps.{fixing, InReach}
-use Rattle.rows.proofs.OneUse.{Stands, StandFrom, stand-at, stand-drop, stand-join, completes-stand, stand-completes, stand-mapped}
-use Rattle.rows.proofs.Fixing.{AgreeTo, fixing-forced, fixing-fits}
-use Rattle.rows.proofs.RowFronts.{values, whole-long, whole-stands, row-stands}
+use Rattle.fronts.specs.RowPlaces.{RowFront, OnTargets, Begins}
+use Rattle.fronts.specs.Steps.{fixing, InReach}
+use Rattle.fronts.proofs.OneUse.{Stands, StandFrom, stand-at, stand-drop, stand-join, completes-stand, stand-completes, stand-mapped}
+use Rattle.fronts.proofs.Fixing.{AgreeTo, fixing-forced, fixing-fits}
+use Rattle.fronts.proofs.RowFronts.{values, whole-long, whole-stands, row-stands}
 
 module _ (p : Task) (h j : ℕ) (ks : List ℕ) (long : length ks ≡ 96) (on : OnTargets p h j ks) where
   pub in-reach : InReach (p .target) ks j

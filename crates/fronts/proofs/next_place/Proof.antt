@@ -3,9 +3,9 @@ use Prim.Native.Nat.{_-_}
 use native.Mathlib.Omega.{arith}
 use lib.ListN.{length}
 use Rattle.placing.specs.Task.{posed}
-use Rattle.rows.proofs.PlaceLaw.{Passed, passed-start, passed-other, passed-not, on-more, place-found, place-none}
-use Rattle.rows.proofs.next_place.Statement.{statement}
-use Rattle.rows.proofs.next_place.Tie as tie
+use Rattle.fronts.proofs.PlaceLaw.{Passed, passed-start, passed-other, passed-not, on-more, place-found, place-none}
+use Rattle.fronts.proofs.next_place.Statement.{statement}
+use Rattle.fronts.proofs.next_place.Tie as tie
 
 abbrev Inv-targets : tie.InvT-targets
 Inv-targets source widths lasts target own head j ks from next₀ next = Passed (posed source widths lasts target own) head j ks from next

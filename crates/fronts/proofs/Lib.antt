@@ -1,0 +1,11 @@
+pub mod Fronts
+pub mod OneUse
+pub mod Fixing
+pub mod FixingSteps
+pub mod RowFronts
+pub mod BeginLaw
+pub mod PlaceLaw
+pub mod FillLaw
+pub mod NextLaw
+pub mod NextSteps
+pub mod Unique
