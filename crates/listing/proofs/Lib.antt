@@ -1,10 +1,3 @@
-pub mod AloneLaws
-pub mod SlotSteps
-pub mod Admission
-pub mod TermsListed
-pub mod Behind
-pub mod SourceSteps
-pub mod TargetSteps
 pub mod RowsSteps
 pub mod TurnLaws
 pub mod ListSteps

@@ -18,10 +18,11 @@ use Rattle.wording.specs.Laid.{QuestionLaid}
 use Rattle.wording.proofs.Stores.{front-length}
 use Rattle.wording.proofs.WordLaws.{words-length}
 use Rattle.rows.specs.RowTask.{alone, onto}
+use Rattle.tasks.specs.Tasks.{TargetWords}
+use Rattle.tasks.proofs.Behind.{front-read}
 use Rattle.listing.specs.Listing.{Sought}
-use Rattle.listing.specs.Tasks.{TargetWords, TargetIs}
+use Rattle.listing.specs.Placings.{TargetIs}
 use Rattle.listing.specs.Turns.{OntoQuestion}
-use Rattle.listing.proofs.Behind.{front-read}
 use Rattle.listing.proofs.RowsSteps.{zeros-take}
 
 module _ {book : List ℕ} {area : ℕ} (w : Sought book area) where

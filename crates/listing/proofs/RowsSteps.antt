@@ -14,9 +14,10 @@ use Rattle.placing.specs.Task.{Task, posed}
 use Rattle.rows.specs.RowTask.{alone, placed, TaskOf}
 use Rattle.rows.specs.RowsAfter.{Asked, Promised}
 use Rattle.rows.specs.declared.Tally.{Tally}
-use Rattle.listing.specs.Tasks.{SummaryIs, SourceWords, Placing, SomePlacing, PlacedRows}
-use Rattle.listing.proofs.Behind.{front-read}
-use Rattle.listing.proofs.SourceSteps.{widths-count}
+use Rattle.tasks.specs.Tasks.{SummaryIs, SourceWords}
+use Rattle.tasks.proofs.Behind.{front-read}
+use Rattle.tasks.proofs.SourceSteps.{widths-count}
+use Rattle.listing.specs.Placings.{Placing, SomePlacing, PlacedRows}
 
 pub zeros-take : (n m : ℕ) → n ≤ m → _≡_ {A = List ℕ} (take n (replicate m 0)) (replicate n 0)
 zeros-take zero m h = refl

@@ -1,33 +1,26 @@
--- The turn of one summary: what stands in the book for it, and what it adds to the table.
+-- The turn of one summary: what it adds to the table.
 use mathlib.Core.Path.{_≡_, refl, sym, _∙_, subst}
 use mathlib.Core.Bool.{Bool, true, false}
 use mathlib.Core.Option.{some, none, Option·none-ne-some, Option·some-injective}
 use mathlib.Core.List.{List}
 use Prim.Native.Nat.{ℕ, zero, suc, _+_, _*_, _≤_}
 use native.Mathlib.Omega.{arith}
-use lib.ListN.{length}
 use Rattle.words.specs.Words.{Rule}
 use Rattle.words.specs.Summaries.{place, summary}
 use Rattle.words.specs.Book.{Summary, Book, admittedOf}
 use Rattle.layout.specs.BookLayout.{SoundBook}
 use Rattle.layout.specs.Contents.{partAt}
-use Rattle.layout.proofs.Places.{place-in, place-some}
-use Rattle.layout.proofs.BookStands.{book-count}
+use Rattle.layout.proofs.Places.{place-in}
 use Rattle.layout.proofs.BookPasses.{book-loads, question-reads, summary-reads}
 use Rattle.rows.specs.RowsAfter.{mostRows, RowsAfter}
 use Rattle.rows.specs.declared.Tally.{Tally}
-use Rattle.listing.specs.Tasks.{SummaryIs, Placing, SomePlacing, PlacedRows}
-use Rattle.listing.specs.Turns.{HasSummary, SaysIn, OntoQuestion, TurnSays}
+use Rattle.admitting.specs.Admission.{HasSummary, SaysIn}
+use Rattle.admitting.proofs.Standing.{standing}
+use Rattle.tasks.specs.Tasks.{SummaryIs}
+use Rattle.listing.specs.Placings.{Placing, SomePlacing, PlacedRows}
+use Rattle.listing.specs.Turns.{OntoQuestion, TurnSays}
 
 module _ {book : List ℕ} {i : ℕ} (has : HasSummary book i) where
-  -- the summary there, in every value of the book
-  pub standing : (b : Book) → SoundBook book b → (u : Summary) × (place (b .summaries) i ≡ some u)
-  standing b s = go i (has .from) (let to = has .to in omega (arith, book-count s, book-count (has .sound)))
-    where
-      go : (k : ℕ) → 1 ≤ k → k ≤ length (b .summaries) → (u : Summary) × (place (b .summaries) k ≡ some u)
-      go zero h l = absurd (omega arith)
-      go (suc k) h l = place-some (b .summaries) k (omega arith)
-
   summary-is : (b : Book) → SoundBook book b → (u : Summary) → place (b .summaries) i ≡ some u → SummaryIs (partAt book 0) (partAt book (i + 1)) (u .rule)
   summary-is b s u p = go i (has .from) p
     where
@@ -49,25 +42,25 @@ module _ {book : List ℕ} {i : ℕ} (has : HasSummary book i) where
 
     pub some-placing : {found area : ℕ} → found ≤ mostRows → 9 * mostRows ≤ area → SomePlacing relations body target own found area
     some-placing few room =
-        let u = standing (has .value) (has .sound) in
+        let u = standing has (has .value) (has .sound) in
         record { rule = u .0 .rule; question = has .value .question; is = placing-of (has .value) (has .sound) (u .0) (u .1); few = few; room = room }
 
     pub turn-in : {found : ℕ} {before after : List ℕ} {says : Bool} {r : Tally} → SaysIn book i says → says ≡ true → PlacedRows relations body target own i found before after r → TurnSays book i found before after r
     turn-in {found} {before} {after} {says} {r} a t p = record { rows = rows; left = left }
       where
-        admitted : (b : Book) (s : SoundBook book b) → summary (admittedOf b) i ≡ some (standing b s .0 .rule)
-        admitted b s = rw t at (a .is b s (standing b s .0) (standing b s .1))
+        admitted : (b : Book) (s : SoundBook book b) → summary (admittedOf b) i ≡ some (standing has b s .0 .rule)
+        admitted b s = rw t at (a .is b s (standing has b s .0) (standing has b s .1))
 
         rows : (b : Book) → SoundBook book b → (v : Rule ℕ) → summary (admittedOf b) i ≡ some v → RowsAfter i v (b .question) found before after r
         rows b s v e =
-            let u = standing b s in
+            let u = standing has b s in
             subst (λ x. RowsAfter i x (b .question) found before after r) (Option·some-injective (u .0 .rule) v (sym (admitted b s) ∙ e)) (p .rows (u .0 .rule) (b .question) (placing-of b s (u .0) (u .1)))
 
         left : (b : Book) → SoundBook book b → summary (admittedOf b) i ≡ none → (r .over ≡ false) × (r .count ≡ found) × (after ≡ before)
-        left b s e = absurd (Option·none-ne-some (standing b s .0 .rule) (sym e ∙ admitted b s))
+        left b s e = absurd (Option·none-ne-some (standing has b s .0 .rule) (sym e ∙ admitted b s))
 
   pub turn-out : (found : ℕ) (before : List ℕ) (says : Bool) → SaysIn book i says → says ≡ false → TurnSays book i found before before record { over = false; count = found }
   turn-out found before says a f = record { rows = λ b s v e. absurd (Option·none-ne-some v (sym (out b s) ∙ e)); left = λ b s e. (refl, refl, refl) }
     where
       out : (b : Book) (s : SoundBook book b) → summary (admittedOf b) i ≡ none
-      out b s = rw f at (a .is b s (standing b s .0) (standing b s .1))
+      out b s = rw f at (a .is b s (standing has b s .0) (standing has b s .1))

@@ -1,7 +1,5 @@
 -- Any two results that meet a promise are the same, and leave the same words.
 use mathlib.Core.Path.{_≡_, refl, sym, ap, _∙_}
-use mathlib.Core.Bool.{Bool, true, false}
-use mathlib.Core.Option.{Option·none-ne-some, Option·some-ne-none}
 use mathlib.Core.List.{List, _++_}
 use Prim.Native.Nat.{ℕ, _*_}
 use native.Mathlib.Omega.{arith}
@@ -9,13 +7,11 @@ use lib.ListN.{drop}
 use Rattle.words.specs.Words.{Rule}
 use Rattle.words.specs.Summaries.{Summaries}
 use Rattle.words.specs.Rows.{allRows}
-use Rattle.words.specs.Book.{ifTrue, admittedOf}
+use Rattle.words.specs.Book.{admittedOf}
 use Rattle.coding.specs.Code.{termCode, wordsOf}
 use Rattle.listing.specs.Listing.{Sought, ListedSays, Listing}
-use Rattle.listing.specs.Turns.{HasSummary, SaysIn}
 use Rattle.listing.specs.declared.Listed.{Listed}
 use Rattle.listing.specs.declared.Listed.the-variants.{All, Over}
-use Rattle.listing.proofs.TurnLaws.{standing}
 
 module _ (s : Summaries) (q : Rule ℕ) (before after after′ : List ℕ) where
   says-once : (r r′ : Listed) → ListedSays s q before after r → ListedSays s q before after′ r′ → (r ≡ r′) × (after ≡ after′)
@@ -29,14 +25,3 @@ module _ (s : Summaries) (q : Rule ℕ) (before after after′ : List ℕ) where
 pub listing-once : (book : List ℕ) (area : ℕ) → Sought book area → (before after after′ : List ℕ) (r r′ : Listed) → Listing book before after r → Listing book before after′ r′ → (r ≡ r′) × (after ≡ after′)
 listing-once book area w before after after′ r r′ a b =
     says-once (admittedOf (w .value)) (w .value .question) before after after′ r r′ (a .says (w .value) (w .sound)) (b .says (w .value) (w .sound))
-
-same-test : (v : Rule ℕ) (x y : Bool) → ifTrue x v ≡ ifTrue y v → x ≡ y
-same-test v true true e = refl
-same-test v true false e = absurd (Option·some-ne-none v e)
-same-test v false true e = absurd (Option·none-ne-some v e)
-same-test v false false e = refl
-
-pub in-once : (book : List ℕ) (i : ℕ) → HasSummary book i → (r r′ : Bool) → SaysIn book i r → SaysIn book i r′ → r ≡ r′
-in-once book i has r r′ a b =
-    let u = standing has (has .value) (has .sound) in
-    same-test (u .0 .rule) r r′ (sym (a .is (has .value) (has .sound) (u .0) (u .1)) ∙ b .is (has .value) (has .sound) (u .0) (u .1))

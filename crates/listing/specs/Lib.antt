@@ -1,4 +1,3 @@
-pub mod Alone
-pub mod Tasks
+pub mod Placings
 pub mod Turns
 pub mod Listing

@@ -1,29 +1,18 @@
--- Summary by summary: which are admitted, and what the rows of one add.
+-- Summary by summary: what the rows of one add.
 use mathlib.Core.Path.{_≡_}
-use mathlib.Core.Bool.{Bool, false}
+use mathlib.Core.Bool.{false}
 use mathlib.Core.Option.{some, none}
 use mathlib.Core.List.{List}
 use Prim.Native.Nat.{ℕ, _*_, _≤_}
-use lib.ListN.{length}
 use Rattle.words.specs.Words.{Rule}
-use Rattle.words.specs.Summaries.{place, summary}
-use Rattle.words.specs.Book.{Summary, Book, ifTrue, admittedOf}
+use Rattle.words.specs.Summaries.{summary}
+use Rattle.words.specs.Book.{Book, admittedOf}
 use Rattle.layout.specs.BookLayout.{SoundBook}
 use Rattle.rows.specs.RowsAfter.{mostRows, RowsAfter}
 use Rattle.rows.specs.Tables.{TableTo}
 use Rattle.rows.specs.declared.Tally.{Tally}
-use Rattle.listing.specs.Tasks.{TargetIs}
-
--- A sound book that has a summary of that number.
-pub record HasSummary (book : List ℕ) (i : ℕ) : Type 0 where
-  pub value : Book
-  pub sound : SoundBook book value
-  pub from : 1 ≤ i
-  pub to : i ≤ length (value .summaries)
-
--- "A summary is admitted exactly if it has a lead of 0 or more": its rule has a say exactly if the test says so.
-pub record SaysIn (book : List ℕ) (i : ℕ) (r : Bool) : Type 0 where
-  pub is : (b : Book) → SoundBook book b → (u : Summary) → place (b .summaries) i ≡ some u → summary (admittedOf b) i ≡ ifTrue r (u .rule)
+use Rattle.admitting.specs.Admission.{HasSummary}
+use Rattle.listing.specs.Placings.{TargetIs}
 
 -- The target is that of the book's question.
 pub record OntoQuestion (book target own : List ℕ) : Type 0 where

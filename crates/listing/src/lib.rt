@@ -1,15 +1,11 @@
 // All summary rows of a sound book, in order, as words.
 ghost use Rattle.listing.specs.Listing.{Sought, Listing};
-ghost use Rattle.listing.specs.Tasks.{SomePlacing, PlacedRows};
-ghost use Rattle.listing.specs.Turns.{HasSummary, SaysIn, OntoQuestion, Turn, TurnSays};
+ghost use Rattle.listing.specs.Placings.{SomePlacing, PlacedRows};
+ghost use Rattle.listing.specs.Turns.{OntoQuestion, Turn, TurnSays};
 ghost use lib.ListN.{length};
-
-mod tasks; // the words of the tasks of placing
-
+use admitting::is_in;
 use books::parts::part_of;
 use contents::fields::count_of;
-use contents::fields::stamp_at;
-use refresh::is_admitted;
 use rows::Tally;
 use rows::rows_of;
 use tasks::put_source;
@@ -20,16 +16,6 @@ use wording::places::head_count;
 pub enum Listed {
     All(usize),
     Over,
-}
-
-// Whether summary i, counted from 1, is admitted.
-pub fn is_in(book: &[u8], i: usize) -> bool
-    requires { ⌜ HasSummary (now book) i ⌝ }
-    ensures { λ r. ⌜ SaysIn (now (book .entry)) i r ⌝ }
-{
-    let need = stamp_at(book, 1);
-    let stamp = stamp_at(book, i + 1);
-    is_admitted(need, stamp)
 }
 
 // The rows of one summary, behind those found before.

@@ -11,8 +11,8 @@ use Rattle.words.specs.Book.{Book}
 use Rattle.layout.specs.BookLayout.{SoundBook}
 use Rattle.layout.specs.Contents.{count}
 use Rattle.layout.proofs.BookStands.{book-count}
-use Rattle.listing.specs.Turns.{HasSummary, SaysIn}
-use Rattle.listing.proofs.TurnLaws.{standing}
+use Rattle.admitting.specs.Admission.{HasSummary, SaysIn}
+use Rattle.admitting.proofs.Standing.{standing}
 use Rattle.asking.specs.Question.{SomeSound}
 use Rattle.truth.proofs.AsRule.{width-is}
 use Rattle.proposed.specs.Tests.{Admitted, Admits, AdmitsAll}

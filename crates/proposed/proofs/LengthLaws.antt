@@ -20,9 +20,8 @@ use Rattle.layout.proofs.Within.{entries-some, loads-room}
 use Rattle.wording.specs.Laid.{Laid}
 use Rattle.wording.specs.Promises.{HeadCount}
 use Rattle.wording.proofs.TermSteps.{mapped}
-use Rattle.listing.specs.Turns.{HasSummary}
-use Rattle.listing.proofs.Admission.{entry-there}
-use Rattle.listing.proofs.TurnLaws.{standing}
+use Rattle.admitting.specs.Admission.{HasSummary}
+use Rattle.admitting.proofs.Standing.{entry-there, standing}
 use Rattle.asking.specs.Question.{SomeSound}
 use Rattle.truth.specs.HeadLengths.{headLengths}
 use Rattle.proposed.specs.Lengths.{HeadAt, HeadsTo, HeadsAre}

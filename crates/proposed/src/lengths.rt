@@ -1,7 +1,7 @@
 // How long the heads of a sound book's summaries are.
+ghost use Rattle.admitting.specs.Admission.{HasSummary};
 ghost use Rattle.asking.specs.Question.{SomeSound};
 ghost use Rattle.layout.specs.Contents.{count};
-ghost use Rattle.listing.specs.Turns.{HasSummary};
 ghost use Rattle.proposed.specs.Lengths.{HeadAt, HeadsTo};
 use books::parts::part_of;
 use contents::fields::count_of;

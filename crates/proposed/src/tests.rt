@@ -4,9 +4,9 @@ ghost use lib.ListN.{length};
 ghost use Rattle.asking.specs.Question.{SomeSound};
 ghost use Rattle.wording.specs.Laid.{Laid};
 ghost use Rattle.proposed.specs.Tests.{LaidOut, SameHeads, Admits, AdmitsAll};
+use admitting::is_in;
 use builders::heads::head_words;
 use contents::fields::count_of;
-use listing::is_in;
 use rules::Verdict;
 use rules::judge;
 

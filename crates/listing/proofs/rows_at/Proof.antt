@@ -1,7 +1,7 @@
 use borrow.Author.Needs.{needs}
 use native.Mathlib.Omega.{arith}
 use Rattle.layout.proofs.BookPasses.{book-loads}
-use Rattle.listing.proofs.Admission.{entry-there}
+use Rattle.admitting.proofs.Standing.{entry-there}
 use Rattle.listing.proofs.TurnLaws.{some-placing, turn-in, turn-out}
 use Rattle.listing.proofs.rows_at.Statement.{statement}
 use Rattle.listing.proofs.rows_at.Tie as tie

@@ -1,9 +1,9 @@
 use borrow.Author.Needs.{needs}
 use Prim.Native.Nat.{_≤_, _-_}
 use native.Mathlib.Omega.{arith}
-use Rattle.listing.proofs.SlotSteps.{some-laid, SlotsSoFar, slots-start, heads-few, slot-room, slots-go, slots-end}
-use Rattle.listing.proofs.tasks.head_slots.Statement.{statement}
-use Rattle.listing.proofs.tasks.head_slots.Tie as tie
+use Rattle.tasks.proofs.SlotSteps.{some-laid, SlotsSoFar, slots-start, heads-few, slot-room, slots-go, slots-end}
+use Rattle.tasks.proofs.head_slots.Statement.{statement}
+use Rattle.tasks.proofs.head_slots.Tie as tie
 
 abbrev Inv-loop : tie.InvT-loop
 Inv-loop body relations heads slots₀ i₀ slots i = (i ≤ heads) × (heads ≤ 8) × SlotsSoFar body i slots

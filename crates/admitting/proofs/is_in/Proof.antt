@@ -1,7 +1,7 @@
 use borrow.Author.Needs.{needs}
-use Rattle.listing.proofs.Admission.{need-room, stamp-room, says-in}
-use Rattle.listing.proofs.is_in.Statement.{statement}
-use Rattle.listing.proofs.is_in.Tie as tie
+use Rattle.admitting.proofs.Standing.{need-room, stamp-room, says-in}
+use Rattle.admitting.proofs.is_in.Statement.{statement}
+use Rattle.admitting.proofs.is_in.Tie as tie
 
 stamp-at-requires : tie.Need-stamp-at-requires
 stamp-at-requires c κs = need-room (c .before .pre)

@@ -1,9 +1,9 @@
 use borrow.Author.Needs.{needs}
 use mathlib.Core.Path.{refl, sym}
 use native.Mathlib.Omega.{arith}
-use Rattle.listing.proofs.TargetSteps.{terms-few, terms-long, shown-long, terms-room, target-part, target-room, target-goals, target-words, widths-room}
-use Rattle.listing.proofs.tasks.put_target.Statement.{statement}
-use Rattle.listing.proofs.tasks.put_target.Tie as tie
+use Rattle.tasks.proofs.TargetSteps.{terms-few, terms-long, shown-long, terms-room, target-part, target-room, target-goals, target-words, widths-room}
+use Rattle.tasks.proofs.put_target.Statement.{statement}
+use Rattle.tasks.proofs.put_target.Tie as tie
 
 array-share-prefix-terms : tie.Need-array-share-prefix-terms
 array-share-prefix-terms c =

@@ -22,7 +22,7 @@ use Rattle.ties.specs.Coded.{In}
 use Rattle.ties.specs.Codings.{readTerm}
 use Rattle.ties.proofs.Read.{read-term}
 use Rattle.rows.proofs.Once.{enumerates-once}
-use Rattle.listing.specs.Tasks.{TermsOf}
+use Rattle.tasks.specs.Tasks.{TermsOf}
 
 abbrev termsIn : List (Subgoal (Term ℕ)) → List (Term ℕ)
 termsIn gs = gather (λ g. g .terms) gs

@@ -1,6 +1,6 @@
-use Rattle.listing.proofs.AloneLaws.{word-head, word-term, word-none}
-use Rattle.listing.proofs.tasks.alone_word.Statement.{statement}
-use Rattle.listing.proofs.tasks.alone_word.Tie as tie
+use Rattle.tasks.proofs.AloneLaws.{word-head, word-term, word-none}
+use Rattle.tasks.proofs.alone_word.Statement.{statement}
+use Rattle.tasks.proofs.alone_word.Tie as tie
 
 returns : tie.Need-returns
 returns c = word-head _ _ (c .if1 .taken)

@@ -14,7 +14,7 @@ use Rattle.frame.specs.Numbered.{nothing}
 use Rattle.coding.proofs.Padded.{words-length}
 use Rattle.ties.proofs.AtWords.{map-get, words-get}
 use Rattle.rows.specs.RowTask.{alone}
-use Rattle.listing.specs.Alone.{aloneOf, aloneWord, aloneWords}
+use Rattle.tasks.specs.Alone.{aloneOf, aloneWord, aloneWords}
 
 pub alone-long : (ws : List ℕ) → length (aloneWords ws) ≡ 9 * length ws
 unfolding aloneWords

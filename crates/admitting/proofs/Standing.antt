@@ -3,7 +3,7 @@ use mathlib.Core.Path.{_≡_, sym, ap, ap₂, _∙_}
 use mathlib.Core.Bool.{Bool}
 use mathlib.Core.Option.{some}
 use mathlib.Core.List.{List}
-use Prim.Native.Nat.{ℕ, suc, _+_, _*_, _<_, _≤_}
+use Prim.Native.Nat.{ℕ, zero, suc, _+_, _*_, _<_, _≤_}
 use native.Mathlib.Omega.{arith}
 use lib.ListN.{length}
 use Rattle.words.specs.Words.{Rule}
@@ -12,11 +12,11 @@ use Rattle.words.specs.Summaries.{place, orNone, summary}
 use Rattle.words.specs.Book.{Summary, Book, ifTrue, admittedOf}
 use Rattle.layout.specs.BookLayout.{SoundBook}
 use Rattle.layout.specs.Contents.{entriesIn, stampAt}
-use Rattle.layout.proofs.Places.{place-map}
-use Rattle.layout.proofs.BookStands.{book-entries, question-stamp, summary-stamp}
+use Rattle.layout.proofs.Places.{place-map, place-some}
+use Rattle.layout.proofs.BookStands.{book-count, book-entries, question-stamp, summary-stamp}
 use Rattle.layout.proofs.BookPasses.{book-loads}
 use Rattle.layout.proofs.Within.{entries-are, entries-some, loads-room}
-use Rattle.listing.specs.Turns.{HasSummary, SaysIn}
+use Rattle.admitting.specs.Admission.{HasSummary, SaysIn}
 
 module _ {book : List ℕ} {i : ℕ} (has : HasSummary book i) where
   pub entry-there : i + 1 < entriesIn book
@@ -27,6 +27,14 @@ module _ {book : List ℕ} {i : ℕ} (has : HasSummary book i) where
 
   pub stamp-room : 14 + 12 * (i + 1) ≤ length book
   stamp-room = loads-room book (i + 1) (book-loads (has .sound)) entry-there
+
+  -- the summary there, in every value of the book
+  pub standing : (b : Book) → SoundBook book b → (u : Summary) × (place (b .summaries) i ≡ some u)
+  standing b s = go i (has .from) (let to = has .to in omega (arith, book-count s, book-count (has .sound)))
+    where
+      go : (k : ℕ) → 1 ≤ k → k ≤ length (b .summaries) → (u : Summary) × (place (b .summaries) k ≡ some u)
+      go zero h l = absurd (omega arith)
+      go (suc k) h l = place-some (b .summaries) k (omega arith)
 
 -- what is made of the summary there
 pub admitted-at : (b : Book) (i : ℕ) (u : Summary) → place (b .summaries) i ≡ some u → summary (admittedOf b) i ≡ ifTrue (admitted (b .need) (u .stamp) (u .rule)) (u .rule)

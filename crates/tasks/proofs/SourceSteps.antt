@@ -14,11 +14,11 @@ use Rattle.wording.proofs.Stores.{front-length}
 use Rattle.wording.proofs.WordLaws.{words-length}
 use Rattle.rows.specs.RowTask.{alone, placed}
 use Rattle.rows.proofs.TableLaws.{words-append}
-use Rattle.listing.specs.Alone.{aloneWords}
-use Rattle.listing.specs.Tasks.{SummaryIs, SomeSummary, HeadSlots, SourceWords}
-use Rattle.listing.proofs.AloneLaws.{alone-words}
-use Rattle.listing.proofs.Behind.{part-long, front-read, mid-long, behind}
-use Rattle.listing.proofs.SlotSteps.{heads-few}
+use Rattle.tasks.specs.Alone.{aloneWords}
+use Rattle.tasks.specs.Tasks.{SummaryIs, SomeSummary, HeadSlots, SourceWords}
+use Rattle.tasks.proofs.AloneLaws.{alone-words}
+use Rattle.tasks.proofs.Behind.{part-long, front-read, mid-long, behind}
+use Rattle.tasks.proofs.SlotSteps.{heads-few}
 
 -- ones at the front of ones
 ones : (ts : List (Term ℕ)) (n : ℕ) → length ts ≤ n → replicate n 1 ≡ atFront (widthsOf (map alone ts)) (replicate n 1)

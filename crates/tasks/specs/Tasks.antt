@@ -1,19 +1,17 @@
 -- What stands where the rows of one summary are asked for: its head's places and its body as the source, the question's terms and its body as the target.
 use mathlib.Core.Path.{_≡_}
 use mathlib.Core.List.{List, map}
-use Prim.Native.Nat.{ℕ, _*_, _≤_}
+use Prim.Native.Nat.{ℕ, _≤_}
 use lib.ListN.{length, replicate}
-use Rattle.words.specs.Words.{Term, Rule, Safe, DistinctVariables}
+use Rattle.words.specs.Words.{Term, Rule, DistinctVariables}
 use Rattle.words.specs.Order.{TermBefore}
 use Rattle.words.specs.Enumerate.{Enumerates}
-use Rattle.layout.specs.RuleLayout.{RuleWithin, Layout}
-use Rattle.layout.specs.BookLayout.{Arities, questionMost, summaryMost}
+use Rattle.layout.specs.RuleLayout.{Layout}
+use Rattle.layout.specs.BookLayout.{questionMost, summaryMost}
 use Rattle.coding.specs.Code.{termCode, slotCode, wordsOf, widthsOf}
 use Rattle.wording.specs.Codes.{atFront}
 use Rattle.ties.specs.Coded.{In}
 use Rattle.rows.specs.RowTask.{placed, onto}
-use Rattle.rows.specs.RowsAfter.{mostRows, RowsAfter}
-use Rattle.rows.specs.declared.Tally.{Tally}
 
 -- The bytes are a summary's: "a rule whose head is distinct variables".
 pub record SummaryIs (relations bytes : List ℕ) (v : Rule ℕ) : Type 0 where
@@ -46,28 +44,3 @@ pub record TargetWords (relations bytes before after : List ℕ) (n : ℕ) : Typ
   pub all : (q : Rule ℕ) (l : Layout relations questionMost bytes q) → TermsOf q (terms q l)
   pub count : (q : Rule ℕ) (l : Layout relations questionMost bytes q) → n ≡ length (onto (terms q l) q)
   pub words : (q : Rule ℕ) (l : Layout relations questionMost bytes q) → after ≡ atFront (wordsOf termCode (onto (terms q l) q)) before
-
--- The target's words, and a 0 for each: they are all of one row, which is in use.
-pub record TargetIs (q : Rule ℕ) (target own : List ℕ) : Type 0 where
-  pub terms : List (Term ℕ)
-  pub all : TermsOf q terms
-  pub words : target ≡ wordsOf termCode (onto terms q)
-  pub marks : own ≡ replicate (length (onto terms q)) 0
-
--- A sound summary v as bytes, and the target that a sound question q makes.
-pub record Placing (relations bytes target own : List ℕ) (v q : Rule ℕ) : Type 0 where
-  pub known : Arities relations
-  pub summary : SummaryIs relations bytes v
-  pub safe : Safe v
-  pub question : RuleWithin relations questionMost q
-  pub onto : TargetIs q target own
-
-pub record SomePlacing (relations bytes target own : List ℕ) (found area : ℕ) : Type 0 where
-  pub rule : Rule ℕ
-  pub question : Rule ℕ
-  pub is : Placing relations bytes target own rule question
-  pub few : found ≤ mostRows
-  pub room : 9 * mostRows ≤ area
-
-pub record PlacedRows (relations bytes target own : List ℕ) (number found : ℕ) (before after : List ℕ) (r : Tally) : Type 0 where
-  pub rows : (v q : Rule ℕ) → Placing relations bytes target own v q → RowsAfter number v q found before after r

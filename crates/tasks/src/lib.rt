@@ -1,11 +1,11 @@
-// The tasks of placing whose mappings give the rows of one summary, as words.
+// One summary and the question's body as a task of the search, in words: its mappings give the summary's rows.
 ghost use mathlib.Core.Path.{_≡_};
 ghost use Prim.Native.Nat.{_*_, _≤_};
 ghost use lib.ListN.{length, replicate};
 ghost use Rattle.wording.specs.Codes.{atFront};
 ghost use Rattle.wording.specs.Laid.{QuestionLaid};
-ghost use Rattle.listing.specs.Alone.{aloneWord, aloneWords};
-ghost use Rattle.listing.specs.Tasks.{SomeSummary, HeadSlots, SourceWords, TargetWords};
+ghost use Rattle.tasks.specs.Alone.{aloneWord, aloneWords};
+ghost use Rattle.tasks.specs.Tasks.{SomeSummary, HeadSlots, SourceWords, TargetWords};
 use builders::bodies::slot_words;
 use builders::bodies::term_words;
 use builders::questions::body_terms;
@@ -61,12 +61,7 @@ fn head_slots(body: &[u8], relations: &[u8]) -> [u64; 8]
 
 // The source: the head's places, then the body. Its words and widths stand at the front of what is lent; a head's place has one term, which the widths
 // say from the start. Returns how many source subgoals there are.
-pub(crate) fn put_source(
-    body: &[u8],
-    relations: &[u8],
-    source: &mut [u64],
-    widths: &mut [u8],
-) -> usize
+pub fn put_source(body: &[u8], relations: &[u8], source: &mut [u64], widths: &mut [u8]) -> usize
     requires { ⌜ SomeSummary (now relations) (now body) × (144 ≤ length (now source)) × (now widths ≡ replicate 16 1) ⌝ }
     ensures { λ r. ⌜ SourceWords (now (relations .entry)) (now (body .entry)) (now (source .entry)) (now (source .exit)) (now (widths .entry)) (now (widths .exit)) r ⌝ }
 {
@@ -83,7 +78,7 @@ pub(crate) fn put_source(
 }
 
 // The target: the question's terms in ascending order, then its body. Returns how many targets there are.
-pub(crate) fn put_target(body: &[u8], relations: &[u8], target: &mut [u64]) -> usize
+pub fn put_target(body: &[u8], relations: &[u8], target: &mut [u64]) -> usize
     requires { ⌜ QuestionLaid (now relations) (now body) × (972 ≤ length (now target)) ⌝ }
     ensures { λ r. ⌜ TargetWords (now (relations .entry)) (now (body .entry)) (now (target .entry)) (now (target .exit)) r ⌝ }
 {

@@ -18,11 +18,11 @@ use Rattle.wording.proofs.Stores.{front-length}
 use Rattle.wording.proofs.WordLaws.{words-length}
 use Rattle.rows.specs.RowTask.{alone}
 use Rattle.rows.proofs.TableLaws.{words-append}
-use Rattle.listing.specs.Alone.{aloneWords}
-use Rattle.listing.specs.Tasks.{TermsOf, TargetWords}
-use Rattle.listing.proofs.AloneLaws.{alone-words}
-use Rattle.listing.proofs.Behind.{part-long, front-read, mid-long, behind}
-use Rattle.listing.proofs.TermsListed.{termsOf, terms-words, terms-of}
+use Rattle.tasks.specs.Alone.{aloneWords}
+use Rattle.tasks.specs.Tasks.{TermsOf, TargetWords}
+use Rattle.tasks.proofs.AloneLaws.{alone-words}
+use Rattle.tasks.proofs.Behind.{part-long, front-read, mid-long, behind}
+use Rattle.tasks.proofs.TermsListed.{termsOf, terms-words, terms-of}
 
 module _ {relations bytes : List ℕ} (laid : QuestionLaid relations bytes) {zeros terms : List ℕ} {n : ℕ} (room : length zeros ≡ 108) (listed : BodyTerms relations bytes zeros terms n) where
   in-order : (q : Rule ℕ) → Layout relations questionMost bytes q → InOrder (WordOf (q .body)) zeros terms n

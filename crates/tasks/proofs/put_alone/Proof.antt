@@ -4,10 +4,10 @@ use Prim.Native.Nat.{_≤_, _-_}
 use native.Mathlib.Omega.{arith}
 use lib.ListN.{length, take, length-set}
 use lib.Seq.{sets}
-use Rattle.listing.specs.Alone.{aloneWords}
-use Rattle.listing.proofs.AloneLaws.{alone-goes, alone-ends}
-use Rattle.listing.proofs.tasks.put_alone.Statement.{statement}
-use Rattle.listing.proofs.tasks.put_alone.Tie as tie
+use Rattle.tasks.specs.Alone.{aloneWords}
+use Rattle.tasks.proofs.AloneLaws.{alone-goes, alone-ends}
+use Rattle.tasks.proofs.put_alone.Statement.{statement}
+use Rattle.tasks.proofs.put_alone.Tie as tie
 
 abbrev Inv-loop : tie.InvT-loop
 Inv-loop words out₀ all k₀ out k = (k ≤ all) × (length out ≡ length out₀) × (out ≡ sets out₀ 0 (take k (aloneWords words)))

@@ -1,10 +1,10 @@
 use borrow.Author.Needs.{needs}
 use mathlib.Core.Path.{sym}
 use native.Mathlib.Omega.{arith}
-use Rattle.listing.proofs.SlotSteps.{heads-few}
-use Rattle.listing.proofs.SourceSteps.{slots-long, shown-long, heads-room, source-part, source-room, widths-part, widths-room, source-goals, source-words}
-use Rattle.listing.proofs.tasks.put_source.Statement.{statement}
-use Rattle.listing.proofs.tasks.put_source.Tie as tie
+use Rattle.tasks.proofs.SlotSteps.{heads-few}
+use Rattle.tasks.proofs.SourceSteps.{slots-long, shown-long, heads-room, source-part, source-room, widths-part, widths-room, source-goals, source-words}
+use Rattle.tasks.proofs.put_source.Statement.{statement}
+use Rattle.tasks.proofs.put_source.Tie as tie
 
 array-share-prefix-slots : tie.Need-array-share-prefix-slots
 array-share-prefix-slots c =

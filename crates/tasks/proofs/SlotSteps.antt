@@ -17,7 +17,7 @@ use Rattle.wording.specs.Codes.{atFront}
 use Rattle.wording.specs.Laid.{Laid}
 use Rattle.wording.specs.Promises.{HeadCount}
 use Rattle.wording.proofs.Stores.{stores-more, stores-end, front-more}
-use Rattle.listing.specs.Tasks.{SummaryIs, SomeSummary, HeadSlots}
+use Rattle.tasks.specs.Tasks.{SummaryIs, SomeSummary, HeadSlots}
 
 pub some-laid : {relations bytes : List ℕ} → SomeSummary relations bytes → Laid bytes
 some-laid {relations} w = record { arities = relations; most = 8; rule = w .rule; layout = w .is .layout }
