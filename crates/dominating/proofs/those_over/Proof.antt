@@ -3,9 +3,9 @@ use Prim.Native.Nat.{_≤_, _-_}
 use mathlib.Core.Path.{_∙_}
 use mathlib.Core.Logic.{⊎-elim}
 use native.Mathlib.Omega.{arith}
-use Rattle.posing.proofs.AgainstSteps.{Passed, against-few, in-order, part-inside, part-small, some-pair, passed-starts, passed-adds, passed-skips, passed-ends}
-use Rattle.posing.proofs.dominance.those_over.Statement.{statement}
-use Rattle.posing.proofs.dominance.those_over.Tie as tie
+use Rattle.dominating.proofs.AgainstSteps.{Passed, against-few, in-order, part-inside, part-small, some-pair, passed-starts, passed-adds, passed-skips, passed-ends}
+use Rattle.dominating.proofs.those_over.Statement.{statement}
+use Rattle.dominating.proofs.those_over.Tie as tie
 
 abbrev Inv-loop : tie.InvT-loop
 Inv-loop source widths target starts n set₀ d₀ set d = (d ≤ n) × Passed source widths target starts n d set

@@ -21,7 +21,7 @@ use Rattle.wording.proofs.WordLaws.{words-length}
 use Rattle.expanding.proofs.Spread.{widths-length}
 use Rattle.choosing.specs.Pruning.{UsesBy, Uses, TellsDominance}
 use Rattle.asking.proofs.Lent.{zeros-at}
-use Rattle.posing.specs.Dominators.{SoundRows, Pair, SomePair, NoRelation, TellsPair}
+use Rattle.dominating.specs.Dominators.{SoundRows, Pair, SomePair, NoRelation, TellsPair}
 
 -- one subgoal more that is not of the relation
 pub none-yet : (target : List ℕ) {relation k : ℕ} → ((j : ℕ) → j < k → getD target (9 * j) 0 ≡ relation → ⊥) → (getD target (9 * k) 0 ≡ relation → ⊥) → (j : ℕ) → j < k + 1 → getD target (9 * j) 0 ≡ relation → ⊥

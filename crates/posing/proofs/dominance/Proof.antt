@@ -2,9 +2,9 @@ use borrow.Author.Needs.{needs}
 use Prim.Native.Nat.{_≤_, _-_}
 use mathlib.Core.Path.{refl}
 use native.Mathlib.Omega.{arith}
-use Rattle.posing.proofs.RowSteps.{rows-onto, Filled, filled-starts, filled-goes, filled-ends}
-use Rattle.posing.proofs.dominance.dominance.Statement.{statement}
-use Rattle.posing.proofs.dominance.dominance.Tie as tie
+use Rattle.posing.proofs.TableSteps.{rows-onto, Filled, filled-starts, filled-goes, filled-ends}
+use Rattle.posing.proofs.dominance.Statement.{statement}
+use Rattle.posing.proofs.dominance.Tie as tie
 
 abbrev Inv-loop : tie.InvT-loop
 Inv-loop book rows n target starts table₀ r₀ table r = (r ≤ n) × Filled book rows n r table

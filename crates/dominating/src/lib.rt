@@ -1,10 +1,8 @@
-// Which rows dominate which: of each row the set of those in whose use its own use can be found.
+// Which rows dominate a row of a sound book: the set of those in whose use its own use can be found.
 ghost use Prim.Native.Nat.{_<_, _≤_};
 ghost use Rattle.expanding.specs.Given.{RowsGiven};
-ghost use Rattle.posing.specs.Targets.{Targets};
-ghost use Rattle.posing.specs.Dominators.{NoRelation, SomePair, TellsPair, SomeAgainst, TellsAgainst, Onto, DominatorsOf, Dominance};
+ghost use Rattle.dominating.specs.Dominators.{NoRelation, SomePair, TellsPair, SomeAgainst, TellsAgainst, Onto, DominatorsOf};
 use choosing::prune::dominates;
-use expanding::all::use_starts;
 use expanding::one::kept_use;
 
 // Whether one of the target's subgoals is of that relation.
@@ -57,7 +55,7 @@ fn those_over(source: &[u64], widths: &[u8], target: &[u64], starts: &[u16; 65],
 }
 
 // The rows that dominate row r, each row by itself.
-fn dominators(
+pub fn dominators(
     book: &[u8],
     rows: &[u64],
     n: usize,
@@ -73,20 +71,4 @@ fn dominators(
     let row = 9 * r;
     let goals = kept_use(book, &rows[row..], &mut source, &mut widths);
     those_over(&source[..9 * goals], &widths[..goals], target, starts, n)
-}
-
-// Of each row the set of rows that dominate it.
-pub(crate) fn dominance(book: &[u8], rows: &[u64], n: usize, target: &[u64]) -> [u64; 64]
-    requires { ⌜ RowsGiven (now book) (now rows) n × (n ≤ 64) × Targets (now book) (now rows) n (now target) ⌝ }
-    ensures { λ r. ⌜ Dominance (now (book .entry)) (now (rows .entry)) n r ⌝ }
-{
-    let mut starts = [0u16; 65];
-    use_starts(book, rows, n, &mut starts);
-    let mut table = [0u64; 64];
-    let mut r: usize = 0;
-    while r < n {
-        table[r] = dominators(book, rows, n, r, target, &starts);
-        r += 1;
-    }
-    table
 }

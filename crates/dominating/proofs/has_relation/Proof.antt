@@ -4,9 +4,9 @@ use native.Mathlib.Omega.{arith}
 use native.Mathlib.Decide.{decLt}
 use borrow.Author.Needs.{needs}
 use lib.ListN.{length, getD}
-use Rattle.posing.proofs.PairSteps.{none-yet, true-not-false}
-use Rattle.posing.proofs.dominance.has_relation.Statement.{statement}
-use Rattle.posing.proofs.dominance.has_relation.Tie as tie
+use Rattle.dominating.proofs.PairSteps.{none-yet, true-not-false}
+use Rattle.dominating.proofs.has_relation.Statement.{statement}
+use Rattle.dominating.proofs.has_relation.Tie as tie
 
 -- none of the first k subgoals is of the relation
 abbrev Inv-loop : tie.InvT-loop

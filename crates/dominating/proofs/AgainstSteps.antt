@@ -21,7 +21,7 @@ use Rattle.wording.specs.Codes.{atFront}
 use Rattle.expanding.specs.Insides.{starts}
 use Rattle.expanding.proofs.Beginnings.{starts-long}
 use Rattle.expanding.proofs.Read.{UsePart, use-part}
-use Rattle.posing.specs.Dominators.{Pair, SomePair, TellsPair, Against, SomeAgainst, TellsAgainst}
+use Rattle.dominating.specs.Dominators.{Pair, SomePair, TellsPair, Against, SomeAgainst, TellsAgainst}
 
 -- The words between where row d's use begins and where the next does.
 abbrev pub partOf : List ℕ → List ℕ → ℕ → List ℕ

@@ -83,7 +83,3 @@ module _ (book rows : List ℕ) (n : ℕ) where
 
   pub record DominatorsOf (r set : ℕ) : Type 0 where
     pub by : (b : Book) (l : Rows) → RowsOf book rows n b l → Dominators (admittedOf b) l r set
-
-  -- of each row its set, in the row's place
-  pub record Dominance (table : List ℕ) : Type 0 where
-    pub by : (b : Book) (l : Rows) → RowsOf book rows n b l → (r : ℕ) → r < n → Dominators (admittedOf b) l r (getD table r 0)

@@ -2,9 +2,9 @@ use borrow.Author.Needs.{needs}
 use mathlib.Core.Path.{refl, sym}
 use native.Mathlib.Omega.{arith}
 use Rattle.expanding.proofs.Growing.{row-there, rows-room}
-use Rattle.posing.proofs.RowSteps.{goals-few, source-long, widths-long, source-part, widths-part, row-against, row-dominators}
-use Rattle.posing.proofs.dominance.dominators.Statement.{statement}
-use Rattle.posing.proofs.dominance.dominators.Tie as tie
+use Rattle.dominating.proofs.RowSteps.{goals-few, source-long, widths-long, source-part, widths-part, row-against, row-dominators}
+use Rattle.dominating.proofs.dominators.Statement.{statement}
+use Rattle.dominating.proofs.dominators.Tie as tie
 
 sub-kept-use : tie.Need-sub-kept-use
 sub-kept-use c = let p = c .before .before .before .pre in omega (arith, rows-room (p .0))

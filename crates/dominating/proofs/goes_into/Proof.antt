@@ -1,9 +1,9 @@
 use mathlib.Core.Path.{sym}
 use native.Mathlib.Omega.{arith}
-use Rattle.posing.proofs.PairSteps.{pair-goals, pair-targets, pair-lasts, pair-own, pair-uses, pair-tells, source-some, pair-apart, told-no}
+use Rattle.dominating.proofs.PairSteps.{pair-goals, pair-targets, pair-lasts, pair-own, pair-uses, pair-tells, source-some, pair-apart, told-no}
 use borrow.Author.Needs.{needs}
-use Rattle.posing.proofs.dominance.goes_into.Statement.{statement}
-use Rattle.posing.proofs.dominance.goes_into.Tie as tie
+use Rattle.dominating.proofs.goes_into.Statement.{statement}
+use Rattle.dominating.proofs.goes_into.Tie as tie
 
 shared-slice-read-has-relation : tie.Need-shared-slice-read-has-relation
 shared-slice-read-has-relation c =
