@@ -8,7 +8,7 @@ use lib.ListN.{length, getD, take, drop, set, length-append, length-drop}
 use lib.Seq.{sets, length-take-le}
 use borrow.Author.Tests.{eq-eqb, ne-eqb}
 use Rattle.writing.proofs.Stores.{sets-next}
-use Rattle.rewriter.specs.Picked.{widthIn, pickedWords, pickedWidths}
+use Rattle.putting.specs.Picked.{widthIn, pickedWords, pickedWidths}
 
 module _ (words : List ℕ) (at n : ℕ) (h : n < 8) where
   left : 8 - n ≡ suc (8 - (n + 1))

@@ -4,14 +4,14 @@ use native.Mathlib.Omega.{arith}
 use borrow.Author.Needs.{needs}
 use lib.ListN.{length, getD, set, take, drop, length-set}
 use lib.Seq.{sets, length-sets}
-use Rattle.rewriter.specs.Picked.{widthIn, pickedWords, pickedWidths}
-use Rattle.rewriter.proofs.Picks.{picked-stored, widths-stored}
-use Rattle.rewriter.proofs.picking.pick.Statement.{statement}
-use Rattle.rewriter.proofs.picking.pick.Tie as tie
-use Rattle.rewriter.proofs.picking.pick.Reads as reads
-use Rattle.rewriter.proofs.picking.pick.Lts as lts
-use Rattle.rewriter.proofs.picking.copy_row.Reads as copy-row-reads
-use Rattle.rewriter.proofs.picking.width_in.Reads as width-in-reads
+use Rattle.putting.specs.Picked.{widthIn, pickedWords, pickedWidths}
+use Rattle.putting.proofs.Picks.{picked-stored, widths-stored}
+use Rattle.putting.proofs.picking.pick.Statement.{statement}
+use Rattle.putting.proofs.picking.pick.Tie as tie
+use Rattle.putting.proofs.picking.pick.Reads as reads
+use Rattle.putting.proofs.picking.pick.Lts as lts
+use Rattle.putting.proofs.picking.copy_row.Reads as copy-row-reads
+use Rattle.putting.proofs.picking.width_in.Reads as width-in-reads
 
 -- the rows so far are picked
 abbrev Inv-loop : tie.InvT-loop

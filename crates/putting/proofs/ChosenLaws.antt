@@ -22,10 +22,10 @@ use Rattle.promise.proofs.Total.{fault-9}
 use Rattle.choosing.specs.Chosen.{numbersOf, Found}
 use Rattle.choosing.specs.declared.Chosen.{Chosen}
 use Rattle.posing.specs.Asked.{AskedOf, Asked}
-use Rattle.rewriter.specs.Picked.{pickedWords, pickedWidths, Pickable}
-use Rattle.rewriter.specs.Steps.{Puts, ChosenPut}
-use Rattle.rewriter.proofs.Picks.{picked-long, widths-long}
-use Rattle.rewriter.proofs.PickMeans.{picked-means, widths-mean}
+use Rattle.putting.specs.Picked.{pickedWords, pickedWidths, Pickable}
+use Rattle.putting.specs.Steps.{Puts, ChosenPut}
+use Rattle.putting.proofs.Picks.{picked-long, widths-long}
+use Rattle.putting.proofs.PickMeans.{picked-means, widths-mean}
 
 -- a summary row is at most as wide as a head
 pub row-narrow : {book : List ℕ} (b : Book) → SoundBook book b → (g : Subgoal (Term ℕ)) → SummaryRow (admittedOf b) (b .question) g → length (g .terms) ≤ 8

@@ -12,7 +12,7 @@ use Rattle.words.specs.Words.{_∈_, Term, var, con, Subgoal}
 use Rattle.frame.specs.Numbered.{Rows, nothing, rowAt, rowsAt}
 use Rattle.coding.specs.Code.{variableTag, constantTag, termCode, padded, subgoalWords, wordsOf, widthsOf}
 use Rattle.coding.proofs.Padded.{padded-length}
-use Rattle.rewriter.specs.Picked.{widthIn, pickedWords, pickedWidths}
+use Rattle.putting.specs.Picked.{widthIn, pickedWords, pickedWidths}
 
 words-nine : (g : Subgoal (Term ℕ)) → length (subgoalWords termCode g) ≡ 9
 words-nine g = ap suc (padded-length 8 (map termCode (g .terms)))

@@ -1,8 +1,8 @@
 use native.Mathlib.Omega.{arith}
-use Rattle.rewriter.proofs.ChosenLaws.{pickable, puts}
+use Rattle.putting.proofs.ChosenLaws.{pickable, puts}
 use borrow.Author.Needs.{needs}
-use Rattle.rewriter.proofs.put_chosen.Statement.{statement}
-use Rattle.rewriter.proofs.put_chosen.Tie as tie
+use Rattle.putting.proofs.put_chosen.Statement.{statement}
+use Rattle.putting.proofs.put_chosen.Tie as tie
 
 pick-requires : tie.Need-pick-requires
 pick-requires c κs =

@@ -4,12 +4,12 @@ use native.Mathlib.Omega.{arith}
 use borrow.Author.Needs.{needs}
 use lib.ListN.{length, getD, set, take, drop, length-set}
 use lib.Seq.{sets, length-sets}
-use Rattle.rewriter.specs.Picked.{widthIn, pickedWords, pickedWidths}
+use Rattle.putting.specs.Picked.{widthIn, pickedWords, pickedWidths}
 use Rattle.writing.proofs.Stores.{byte-stored}
-use Rattle.rewriter.proofs.picking.copy_row.Statement.{statement}
-use Rattle.rewriter.proofs.picking.copy_row.Tie as tie
-use Rattle.rewriter.proofs.picking.copy_row.Reads as reads
-use Rattle.rewriter.proofs.picking.copy_row.Lts as lts
+use Rattle.putting.proofs.picking.copy_row.Statement.{statement}
+use Rattle.putting.proofs.picking.copy_row.Tie as tie
+use Rattle.putting.proofs.picking.copy_row.Reads as reads
+use Rattle.putting.proofs.picking.copy_row.Lts as lts
 
 -- the words so far are copied
 abbrev Inv-loop : tie.InvT-loop

@@ -1,9 +1,9 @@
 use mathlib.Core.Path.{refl}
 use native.Mathlib.Omega.{arith}
-use Rattle.rewriter.proofs.PutLaws.{witness-room, tells, question-there, writable, lengths-fit, there-kept, accepted}
+use Rattle.putting.proofs.PutLaws.{witness-room, tells, question-there, writable, lengths-fit, there-kept, accepted}
 use borrow.Author.Needs.{needs}
-use Rattle.rewriter.proofs.putting.put_all.Statement.{statement}
-use Rattle.rewriter.proofs.putting.put_all.Tie as tie
+use Rattle.putting.proofs.put_all.Statement.{statement}
+use Rattle.putting.proofs.put_all.Tie as tie
 
 put-there-requires : tie.Need-put-there-requires
 put-there-requires c κs =

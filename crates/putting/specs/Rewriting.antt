@@ -5,8 +5,8 @@ use Prim.Native.Nat.{ℕ}
 use lib.ListN.{length}
 use Rattle.promise.specs.Table.{Refused}
 use Rattle.promise.specs.Given.{written, answerBytes, witnessBytes, Given}
-use Rattle.rewriter.specs.declared.Outcome.{Outcome}
-use Rattle.rewriter.specs.declared.Outcome.the-variants.{Done, Refused as RefusedWith}
+use Rattle.putting.specs.declared.Outcome.{Outcome}
+use Rattle.putting.specs.declared.Outcome.the-variants.{Done, Refused as RefusedWith}
 
 module _ (book answer answer′ witness witness′ : List ℕ) where
   -- "An accepted answer is written to the answer area as a rule"; "Both lengths are returned; bytes past them stay."

@@ -4,12 +4,12 @@ use native.Mathlib.Omega.{arith}
 use borrow.Author.Needs.{needs}
 use lib.ListN.{length, getD, set, take, drop, length-set}
 use lib.Seq.{sets, length-sets}
-use Rattle.rewriter.specs.Picked.{widthIn, pickedWords, pickedWidths}
-use Rattle.rewriter.proofs.Picks.{width-ended, width-more, width-start, width-end}
-use Rattle.rewriter.proofs.picking.width_in.Statement.{statement}
-use Rattle.rewriter.proofs.picking.width_in.Tie as tie
-use Rattle.rewriter.proofs.picking.width_in.Reads as reads
-use Rattle.rewriter.proofs.picking.width_in.Lts as lts
+use Rattle.putting.specs.Picked.{widthIn, pickedWords, pickedWidths}
+use Rattle.putting.proofs.Picks.{width-ended, width-more, width-start, width-end}
+use Rattle.putting.proofs.picking.width_in.Statement.{statement}
+use Rattle.putting.proofs.picking.width_in.Tie as tie
+use Rattle.putting.proofs.picking.width_in.Reads as reads
+use Rattle.putting.proofs.picking.width_in.Lts as lts
 
 -- what is left to look at gives the whole width
 abbrev Inv-loop : tie.InvT-loop

@@ -3,7 +3,7 @@ ghost use mathlib.Core.Path.{_≡_};
 ghost use Prim.Native.Nat.{_+_, _*_, _≤_, _<_};
 ghost use lib.ListN.{length, take, drop};
 ghost use lib.Seq.{sets};
-ghost use Rattle.rewriter.specs.Picked.{Pickable, pickedWords, widthIn, pickedWidths};
+ghost use Rattle.putting.specs.Picked.{Pickable, pickedWords, widthIn, pickedWidths};
 
 // How many terms a row has: a word of 1 stands where they have ended.
 fn width_in(words: &[u64], r: usize) -> u8

@@ -32,9 +32,9 @@ use Rattle.expanding.specs.Given.{RowOf, RowGiven, RowsOf}
 use Rattle.expanding.proofs.RowUse.{summary-few}
 use Rattle.expanding.proofs.SummaryRows.{summary-rows}
 use Rattle.telling.specs.Told.{FewOf, Tells, ThereOf, ThereTold, BackOf, BackTold}
-use Rattle.rewriter.specs.Rewriting.{Accepted}
-use Rattle.rewriter.specs.Steps.{Puts}
-use Rattle.rewriter.proofs.ChosenLaws.{stored-front}
+use Rattle.putting.specs.Rewriting.{Accepted}
+use Rattle.putting.specs.Steps.{Puts}
+use Rattle.putting.proofs.ChosenLaws.{stored-front}
 
 module _ {answer witness : ℕ} (room : Fault1 answer witness → ⊥) where
   pub answer-room : 534 ≤ answer
