@@ -20,7 +20,7 @@ use Rattle.choosing.specs.Chosen.{Chooses}
 use Rattle.choosing.specs.declared.Chosen.{Chosen}
 use Rattle.posing.specs.Asked.{AskedOf, Asked, RowsChosen}
 use Rattle.posing.specs.Targets.{Targets, Owners}
-use Rattle.posing.specs.Dominators.{Dominance}
+use Rattle.posing.specs.Dominance.{Dominance}
 use Rattle.posing.proofs.AskedLaws.{asked-rows}
 
 -- The sets make a table for the choice.

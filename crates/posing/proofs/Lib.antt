@@ -1,6 +1,4 @@
-pub mod PairSteps
-pub mod AgainstSteps
-pub mod RowSteps
+pub mod TableSteps
 pub mod AskedLaws
 pub mod ChooseSteps
 pub mod ExpandSteps

@@ -1,3 +1,3 @@
 pub mod Asked
 pub mod Targets
-pub mod Dominators
+pub mod Dominance

@@ -1,15 +1,32 @@
 // The task of choosing rows, posed for a sound book's question over all its summary rows.
+ghost use Prim.Native.Nat.{_≤_};
+ghost use Rattle.expanding.specs.Given.{RowsGiven};
 ghost use Rattle.posing.specs.Asked.{Asked, RowsChosen};
 ghost use Rattle.posing.specs.Targets.{Targets, Owners};
-
-mod dominance; // which rows dominate which
-
+ghost use Rattle.posing.specs.Dominance.{Dominance};
 use asking::question_bindings;
 use asking::question_source;
 use choosing::Chosen;
 use choosing::choose;
-use dominance::dominance;
+use dominating::dominators;
 use expanding::all::expand;
+use expanding::all::use_starts;
+
+// Of each row the set of rows that dominate it.
+fn dominance(book: &[u8], rows: &[u64], n: usize, target: &[u64]) -> [u64; 64]
+    requires { ⌜ RowsGiven (now book) (now rows) n × (n ≤ 64) × Targets (now book) (now rows) n (now target) ⌝ }
+    ensures { λ r. ⌜ Dominance (now (book .entry)) (now (rows .entry)) n r ⌝ }
+{
+    let mut starts = [0u16; 65];
+    use_starts(book, rows, n, &mut starts);
+    let mut table = [0u64; 64];
+    let mut r: usize = 0;
+    while r < n {
+        table[r] = dominators(book, rows, n, r, target, &starts);
+        r += 1;
+    }
+    table
+}
 
 // The rows are chosen, given the words of their uses.
 fn choose_onto(book: &[u8], rows: &[u64], n: usize, target: &[u64], own: &[u8]) -> Chosen

@@ -22,9 +22,10 @@ use Rattle.promise.proofs.Total.{fault-9}
 use Rattle.choosing.specs.Chosen.{ChosenBy, Found, NotFound}
 use Rattle.choosing.specs.declared.Chosen.{Chosen}
 use Rattle.posing.specs.Asked.{AskedOf, Asked, RowsChosen}
-use Rattle.rewriter.specs.Rewriting.{TurnedDown}
-use Rattle.rewriter.specs.Steps.{Sounds, Rowed, ChosenPut}
-use Rattle.rewriter.proofs.ChosenLaws.{few-rows}
+use Rattle.putting.specs.Rewriting.{TurnedDown}
+use Rattle.putting.specs.Steps.{ChosenPut}
+use Rattle.putting.proofs.ChosenLaws.{few-rows}
+use Rattle.rewriter.specs.Steps.{Sounds, Rowed}
 
 pub turned-down : {book a w : List ℕ} {k p : ℕ} → Refused book (length a) (length w) k p → TurnedDown book a a w w k p
 turned-down r = record { refused = r; answer-stays = refl; witness-stays = refl }

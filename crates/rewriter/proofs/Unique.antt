@@ -7,9 +7,9 @@ use Rattle.words.specs.Book.{Book}
 use Rattle.words.specs.Result.{Answered}
 use Rattle.promise.specs.Given.{written, answerBytes, witnessBytes, Given}
 use Rattle.promise.proofs.Once.{given-value, given-result, given-unrefused, refused-same}
-use Rattle.rewriter.specs.Rewriting.{Rewriting}
-use Rattle.rewriter.specs.declared.Outcome.{Outcome}
-use Rattle.rewriter.specs.declared.Outcome.the-variants.{Done, Refused as RefusedWith}
+use Rattle.putting.specs.Rewriting.{Rewriting}
+use Rattle.putting.specs.declared.Outcome.{Outcome}
+use Rattle.putting.specs.declared.Outcome.the-variants.{Done, Refused as RefusedWith}
 
 module _ (book a w : List ℕ) where
   abbrev answerOf : Given book (length a) (length w) → List ℕ

@@ -1,45 +1,15 @@
 // A book of bytes rewritten: the answer and its witness in two lent areas, or the refusal.
 ghost use lib.ListN.{length};
-ghost use Rattle.rewriter.specs.Rewriting.{Rewriting};
-ghost use Rattle.rewriter.specs.Steps.{Sounds, Rowed, ChosenPut};
-
-mod picking; // the chosen rows, out of the words of all
-mod putting; // answer and witness, written
-
+ghost use Rattle.putting.specs.Rewriting.{Rewriting};
+ghost use Rattle.rewriter.specs.Steps.{Sounds, Rowed};
 use books::Reading;
 use books::read_book;
-use choosing::Chosen;
 use listing::Listed;
 use listing::list_rows;
-use picking::pick;
 use posing::choose_rows;
-use putting::put_all;
-
-// The lengths of answer and witness; or the refusal's number and place.
-pub enum Outcome {
-    Done(usize, usize),
-    Refused(u8, usize),
-}
-
-// The rows chosen, written.
-fn put_chosen(
-    book: &[u8],
-    rows: &[u64],
-    n: usize,
-    chosen: Chosen,
-    answer: &mut [u8],
-    witness: &mut [u8],
-) -> Outcome
-    requires { ⌜ ChosenPut (now book) (now rows) n chosen (length (now answer)) (length (now witness)) ⌝ }
-    ensures { λ r. ⌜ Rewriting (now (book .entry)) (now (answer .entry)) (now (answer .exit)) (now (witness .entry)) (now (witness .exit)) r ⌝ }
-{
-    let k = chosen.k;
-    let picks = chosen.rows;
-    let mut words = [0u64; 108];
-    let mut widths = [0u8; 12];
-    pick(rows, &picks, k, &mut words, &mut widths);
-    put_all(book, &words, &widths, k, answer, witness)
-}
+use putting::put_chosen;
+// what `rewrite` returns: callers take it from this crate
+pub use putting::Outcome;
 
 // Over all n rows: 10 where no list of them will do.
 fn rewrite_rows(

@@ -1,0 +1,4 @@
+pub mod PairSteps
+pub mod AgainstSteps
+pub mod RowSteps
+pub mod Unique

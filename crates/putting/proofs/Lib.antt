@@ -1,0 +1,4 @@
+pub mod Picks
+pub mod PickMeans
+pub mod PutLaws
+pub mod ChosenLaws

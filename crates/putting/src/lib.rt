@@ -1,0 +1,57 @@
+// The chosen rows of a sound book as the bytes of answer and witness, in two lent areas.
+ghost use lib.ListN.{length};
+ghost use Rattle.putting.specs.Rewriting.{Rewriting};
+ghost use Rattle.putting.specs.Steps.{Puts, ChosenPut};
+
+mod picking; // the chosen rows, out of the words of all
+
+use books::parts::part_of;
+use choosing::Chosen;
+use picking::pick;
+use telling::back::put_back;
+use telling::there::put_there;
+use writing::put_rule;
+
+// The lengths of answer and witness; or the refusal's number and place.
+pub enum Outcome {
+    Done(usize, usize),
+    Refused(u8, usize),
+}
+
+// The witness's two parts, then the answer: k rows, by their words and widths.
+fn put_all(
+    book: &[u8],
+    words: &[u64],
+    widths: &[u8],
+    k: usize,
+    answer: &mut [u8],
+    witness: &mut [u8],
+) -> Outcome
+    requires { ⌜ Puts (now book) (now words) (now widths) k (length (now answer)) (length (now witness)) ⌝ }
+    ensures { λ r. ⌜ Rewriting (now (book .entry)) (now (answer .entry)) (now (answer .exit)) (now (witness .entry)) (now (witness .exit)) r ⌝ }
+{
+    let there = put_there(book, words, k, witness);
+    let back = put_back(book, words, k, witness, there);
+    let long = put_rule(answer, part_of(book, 1), words, widths, k);
+    Outcome::Done(long, there + back)
+}
+
+// The rows chosen, written.
+pub fn put_chosen(
+    book: &[u8],
+    rows: &[u64],
+    n: usize,
+    chosen: Chosen,
+    answer: &mut [u8],
+    witness: &mut [u8],
+) -> Outcome
+    requires { ⌜ ChosenPut (now book) (now rows) n chosen (length (now answer)) (length (now witness)) ⌝ }
+    ensures { λ r. ⌜ Rewriting (now (book .entry)) (now (answer .entry)) (now (answer .exit)) (now (witness .entry)) (now (witness .exit)) r ⌝ }
+{
+    let k = chosen.k;
+    let picks = chosen.rows;
+    let mut words = [0u64; 108];
+    let mut widths = [0u8; 12];
+    pick(rows, &picks, k, &mut words, &mut widths);
+    put_all(book, &words, &widths, k, answer, witness)
+}
