@@ -1,6 +1,6 @@
 -- The start of the pass, a row tried, the end.
 use mathlib.Core.Path.{_≡_, refl, sym, ap, _∙_, subst}
-use mathlib.Core.Bool.{Bool, true, false, cond}
+use mathlib.Core.Bool.{Bool, true, false, cond, true≢false}
 use mathlib.Core.Logic.{_⊎_, inl, inr, ⊎-elim, _↔_}
 use mathlib.Core.List.{List, [], _∷_, _++_}
 use Prim.Native.Nat.{ℕ, zero, suc, _+_, _-_, _<_, _≤_}
@@ -46,31 +46,44 @@ module _ {s : Summaries} {q : Rule ℕ} {rows : Rows} {t : Task} {b : List ℕ} 
   at-least zero h = at-least-start s q rows
   at-least (suc k) h = rw (sym (add-one k)) (at-least-next s q rows k (at-least k (λ j l. h j (omega arith))) (λ c. h k (omega arith) (can-start k .1 c)))
 
+-- what fewer rows can do, more can
+feasible-more : {t : Task} {b : List ℕ} {used may left more : ℕ} → left ≤ more → Feasible t b used may left → Feasible t b used may more
+feasible-more h f =
+    record {
+      places = f .places;
+      mapped = f .mapped;
+      within = record { taken = f .within .taken; few = omega (arith, f .within .few); allowed = f .within .allowed; each = f .within .each };
+    }
+
+module _ {t : Task} {b : List ℕ} {all left : ℕ} {a : Bool} (given : Enough t b 0 all left a) where
+  can-do : (may : ℕ) → all ≡ may → a ≡ true → Feasible t b 0 may left
+  can-do may every z = rw every at (given .exactly .0 z)
+
+  cannot-do : (may : ℕ) → all ≡ may → a ≡ false → Feasible t b 0 may left → ⊥
+  cannot-do may every z f = true≢false (sym (given .exactly .1 (rw every f)) ∙ z)
+
+-- where 12 rows cannot do, fewer cannot
+pub fewest-none : {t : Task} {b : List ℕ} {n all : ℕ} {a : Bool} → all ≡ first n → Enough t b 0 all 12 a → a ≡ false → Fewest t b n 13
+fewest-none every given z = record { few = omega arith; fewer = λ j h f. cannot-do given _ every z (feasible-more (omega arith) f); can = λ l. absurd (omega arith) }
+
 -- Tried from 0 up: fewer than k cannot do.
 pub record Cannot (t : Task) (b : List ℕ) (n k : ℕ) : Type 0 where
-  pub few : k ≤ 13
+  pub few : k ≤ 12
   pub fewer : (j : ℕ) → j < k → Feasible t b 0 (first n) j → ⊥
 
 pub cannot-start : (t : Task) (b : List ℕ) (n : ℕ) → Cannot t b n 0
 cannot-start t b n = record { few = omega arith; fewer = λ j h. absurd (omega arith) }
 
 module _ {t : Task} {b : List ℕ} {n k : ℕ} (c : Cannot t b n k) where
-  module _ {all : ℕ} {a : Bool} (every : all ≡ first n) (h : k < 13) (given : Enough t b 0 all k a) where
-    e : Enough t b 0 (first n) k a
-    e = rw every at given
-
+  module _ {all : ℕ} {a : Bool} (every : all ≡ first n) (given : Enough t b 0 all k a) where
     pub fewest-here : a ≡ true → Fewest t b n k
-    fewest-here z = record { few = c .few; fewer = c .fewer; can = λ l. e .exactly .0 z }
+    fewest-here z = record { few = omega (arith, c .few); fewer = c .fewer; can = λ l. can-do given _ every z }
 
-    pub cannot-next : a ≡ false → Cannot t b n (k + 1)
-    cannot-next z = record { few = omega arith; fewer = λ j l. go j (ℕ-discrete j k) (omega arith) }
-      where
-        go : (j : ℕ) → Dec (j ≡ k) → j ≤ k → Feasible t b 0 (first n) j → ⊥
-        go j (yes o) l f = let w : _≡_ {A = ℕ} 0 1 = cc (e .exactly .1 (rw o at f)) in omega arith
-        go j (no o) l f = c .fewer j (omega arith) f
+    pub cannot-next : k < 12 → a ≡ false → Cannot t b n (k + 1)
+    cannot-next h z = record { few = omega arith; fewer = λ j l f. elim (ℕ-discrete j k) [ yes o ↦ cannot-do given _ every z (rw o at f) | no o ↦ c .fewer j (omega arith) f ] }
 
-  pub fewest-none : 13 ≤ k → Fewest t b n k
-  fewest-none h = record { few = c .few; fewer = c .fewer; can = λ l. absurd (omega arith) }
+  pub fewest-last : {all : ℕ} {a : Bool} → 12 ≤ k → all ≡ first n → Enough t b 0 all 12 a → a ≡ true → Fewest t b n k
+  fewest-last h every given z = let e : k ≡ 12 = omega (arith, c .few) in record { few = omega arith; fewer = c .fewer; can = λ l. rw e (can-do given _ every z) }
 
 -- k can do
 module _ {t : Task} {b : List ℕ} {n k : ℕ} (f : Fewest t b n k) where

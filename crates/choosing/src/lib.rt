@@ -91,7 +91,7 @@ fn passed(p: Pass, row: usize) -> Pass
     }
 }
 
-// How few rows can do: 13 where more than 12 would be wanted.
+// How few rows can do: 13 where more than 12 would be wanted. That is asked first, since where 12 rows cannot do, fewer cannot.
 fn fewest(
     source: &[u64],
     widths: &[u8],
@@ -106,8 +106,11 @@ fn fewest(
     ensures { λ r. ⌜ Fewest (posed (now (source .entry)) (now (widths .entry)) (now (lasts .entry)) (now (target .entry)) (now (own .entry))) b n r ⌝ }
 {
     let all = bits::below(n as u32);
+    if !prune::can(source, widths, lasts, target, own, b, dom, n, 0, all, 12) {
+        return 13;
+    }
     let mut k: usize = 0;
-    while k < 13 {
+    while k < 12 {
         if prune::can(source, widths, lasts, target, own, b, dom, n, 0, all, k) {
             return k;
         }
