@@ -3,20 +3,16 @@ use mathlib.Core.Bool.{Bool, true, false, _&&_, not}
 use mathlib.Core.List.{List, [], _∷_}
 use Prim.Native.Nat.{ℕ, _-_}
 use lib.ListN.{length}
-use Rattle.words.specs.Words.{Term, var, con, Subgoal, Rule}
+use Rattle.words.specs.Words.{Term, var, con, Subgoal}
 use Rattle.layout.specs.Reading.{Read, got, bad}
 use Rattle.layout.specs.Reading as reading
 use Rattle.bits.specs.Sets.{with, has}
-use Rattle.rules.specs.declared.Fault.{Fault}
-use Rattle.rules.specs.declared.Fault.the-variants.{Count, Relation, Tag, Variable, Early, Over}
-use Rattle.rules.specs.declared.Marks.{Marks}
-use Rattle.rules.specs.declared.Step.{Step}
-use Rattle.rules.specs.declared.Step.the-variants.{Next}
-use Rattle.rules.specs.declared.Step.the-variants as step
-use Rattle.rules.specs.declared.Whole.{Whole}
-use Rattle.rules.specs.declared.Whole.the-variants as whole
-use Rattle.rules.specs.declared.Verdict.{Verdict}
-use Rattle.rules.specs.declared.Verdict.the-variants.{Sound, Broken}
+use Rattle.subgoals.specs.declared.Fault.{Fault}
+use Rattle.subgoals.specs.declared.Fault.the-variants.{Count, Relation, Tag, Variable, Early, Over}
+use Rattle.subgoals.specs.declared.Marks.{Marks}
+use Rattle.subgoals.specs.declared.Step.{Step}
+use Rattle.subgoals.specs.declared.Step.the-variants.{Next}
+use Rattle.subgoals.specs.declared.Step.the-variants as step
 
 -- nothing noted yet
 abbrev pub none : Marks
@@ -51,17 +47,3 @@ faultOf reading.over = Over
 unfoldable pub stepped : {A : Type 0} → (A → Marks) → ℕ → Read A → Step
 stepped noted n (got a rest) = Next (n - length rest) (noted a)
 stepped noted n (bad f) = step.Bad (faultOf f)
-
-unfoldable pub wholeOf : Read (Rule ℕ) → Whole
-wholeOf (got r rest) = whole.Rule (marks none (r .head)) (goalMarks none (r .body))
-wholeOf (bad f) = whole.Bad (faultOf f)
-
--- a step's fault as the whole rule's
-abbrev pub stoppedBy : Step → Whole
-stoppedBy (Next p m) = whole.Rule m m
-stoppedBy (step.Bad f) = whole.Bad f
-
--- a whole rule's fault as a verdict
-abbrev pub brokenBy : Whole → Verdict
-brokenBy (whole.Rule a b) = Sound
-brokenBy (whole.Bad f) = Broken f

@@ -2,16 +2,16 @@ use mathlib.Core.Path.{_≡_, ap, sym, _∙_}
 use Prim.Native.Nat.{_+_}
 use native.Mathlib.Omega.{arith}
 use borrow.Author.Needs.{needs}
-use Rattle.rules.specs.declared.Step.the-variants.{Next}
-use Rattle.rules.specs.Marked.{mark}
-use Rattle.rules.proofs.TermSteps.{at-end, bad-tag, cut, constant, variable, bad-variable}
-use Rattle.rules.proofs.read_term.Statement.{statement}
-use Rattle.rules.proofs.read_term.Tie as tie
-use Rattle.rules.proofs.read_term.Reads as reads
-use Rattle.rules.proofs.read_term.Lts as lts
+use Rattle.subgoals.specs.declared.Step.the-variants.{Next}
+use Rattle.subgoals.specs.Marked.{mark}
+use Rattle.subgoals.proofs.TermSteps.{at-end, bad-tag, cut, constant, variable, bad-variable}
+use Rattle.subgoals.proofs.read_term.Statement.{statement}
+use Rattle.subgoals.proofs.read_term.Tie as tie
+use Rattle.subgoals.proofs.read_term.Reads as reads
+use Rattle.subgoals.proofs.read_term.Lts as lts
 use Rattle.numbers.proofs.u32_at.Reads as u32-at-reads
-use Rattle.rules.proofs.marked.Reads as marked-reads
-use Rattle.rules.proofs.unmarked.Reads as unmarked-reads
+use Rattle.subgoals.proofs.marked.Reads as marked-reads
+use Rattle.subgoals.proofs.unmarked.Reads as unmarked-reads
 
 returns : tie.Need-returns
 returns c = let a = c .before .before .args in at-end (mark (a .m)) (a .body .now) (a .at) (c .if1 .taken)

@@ -4,8 +4,8 @@ use mathlib.Core.Bool.{Bool, true, false, _&&_, not}
 use Prim.Native.Nat.{ℕ}
 use Rattle.words.specs.Words.{Term, var, con}
 use Rattle.bits.specs.Sets.{with, has}
-use Rattle.rules.specs.declared.Marks.{Marks}
-use Rattle.rules.specs.Marked.{mark}
+use Rattle.subgoals.specs.declared.Marks.{Marks}
+use Rattle.subgoals.specs.Marked.{mark}
 
 abbrev noted : ℕ → Bool → Marks
 noted a b = record { vars = a; plain = b }

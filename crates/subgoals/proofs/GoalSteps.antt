@@ -10,11 +10,11 @@ use lib.Dec.{ltb}
 use borrow.Author.Tests.{lt-ltb, le-ltb}
 use Rattle.words.specs.Words.{Term, Subgoal}
 use Rattle.layout.specs.Reading.{Read, got, bad, badRelation, andThen, readTerm, readMany, asSubgoal, readSubgoal}
-use Rattle.rules.specs.declared.Fault.the-variants.{Relation, Early}
-use Rattle.rules.specs.declared.Marks.{Marks}
-use Rattle.rules.specs.declared.Step.{Step}
-use Rattle.rules.specs.declared.Step.the-variants.{Next, Bad}
-use Rattle.rules.specs.Marked.{stepped, marks, ofGoal}
+use Rattle.subgoals.specs.declared.Fault.the-variants.{Relation, Early}
+use Rattle.subgoals.specs.declared.Marks.{Marks}
+use Rattle.subgoals.specs.declared.Step.{Step}
+use Rattle.subgoals.specs.declared.Step.the-variants.{Next, Bad}
+use Rattle.subgoals.specs.Marked.{stepped, marks, ofGoal}
 
 module _ (m : Marks) (arities s : List ℕ) (at : ℕ) where
   abbrev answer : Step

@@ -8,12 +8,12 @@ use Rattle.words.specs.Words.{Term, Subgoal}
 use Rattle.layout.specs.Reading.{Read, got, bad, andThen, readMany, readTerm, readSubgoal}
 use Rattle.layout.specs.Reading as reading
 use Rattle.layout.proofs.Tails.{Tails, EndOf, end-place, tails-term, tails-subgoal}
-use Rattle.rules.specs.declared.Fault.{Fault}
-use Rattle.rules.specs.declared.Marks.{Marks}
-use Rattle.rules.specs.declared.Step.{Step}
-use Rattle.rules.specs.declared.Step.the-variants.{Next, Bad}
-use Rattle.rules.specs.Marked.{stepped, faultOf, mark, marks, ofGoal, goalMarks}
-use Rattle.rules.proofs.TermSteps.{place-left}
+use Rattle.subgoals.specs.declared.Fault.{Fault}
+use Rattle.subgoals.specs.declared.Marks.{Marks}
+use Rattle.subgoals.specs.declared.Step.{Step}
+use Rattle.subgoals.specs.declared.Step.the-variants.{Next, Bad}
+use Rattle.subgoals.specs.Marked.{stepped, faultOf, mark, marks, ofGoal, goalMarks}
+use Rattle.subgoals.proofs.TermSteps.{place-left}
 
 -- a step that goes on, or that ends the reading, taken apart
 pub record Went {A : Type 0} (noted : A → Marks) (n : ℕ) (z : Read A) (p : ℕ) (m : Marks) : Type 0 where

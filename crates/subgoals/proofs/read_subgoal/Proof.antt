@@ -1,13 +1,13 @@
 use mathlib.Core.Path.{_≡_, sym, _∙_}
 use native.Mathlib.Omega.{arith}
 use borrow.Author.Needs.{needs}
-use Rattle.rules.proofs.GoalSteps.{goal-end, goal-unknown, goal-terms}
-use Rattle.rules.proofs.read_subgoal.Statement.{statement}
-use Rattle.rules.proofs.read_subgoal.Tie as tie
-use Rattle.rules.proofs.read_subgoal.Reads as reads
-use Rattle.rules.proofs.read_subgoal.Lts as lts
-use Rattle.rules.proofs.read_terms.Reads as read-terms-reads
-use Rattle.rules.proofs.wide.Reads as wide-reads
+use Rattle.subgoals.proofs.GoalSteps.{goal-end, goal-unknown, goal-terms}
+use Rattle.subgoals.proofs.read_subgoal.Statement.{statement}
+use Rattle.subgoals.proofs.read_subgoal.Tie as tie
+use Rattle.subgoals.proofs.read_subgoal.Reads as reads
+use Rattle.subgoals.proofs.read_subgoal.Lts as lts
+use Rattle.subgoals.proofs.read_terms.Reads as read-terms-reads
+use Rattle.subgoals.proofs.wide.Reads as wide-reads
 
 returns : tie.Need-returns
 returns c = let a = c .before .before .before .args in goal-end (a .m) (a .relations .now) (a .body .now) (a .at) (c .if1 .taken)

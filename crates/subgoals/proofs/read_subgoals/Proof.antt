@@ -3,12 +3,12 @@ use Prim.Native.Nat.{_≤_, _-_}
 use native.Mathlib.Omega.{arith}
 use borrow.Author.Needs.{needs}
 use lib.ListN.{length}
-use Rattle.rules.proofs.Runs.{subgoals, left, run-stops, run-goes, run-ends, run-starts}
-use Rattle.rules.proofs.read_subgoals.Statement.{statement}
-use Rattle.rules.proofs.read_subgoals.Tie as tie
-use Rattle.rules.proofs.read_subgoals.Reads as reads
-use Rattle.rules.proofs.read_subgoals.Lts as lts
-use Rattle.rules.proofs.read_subgoal.Reads as read-subgoal-reads
+use Rattle.subgoals.proofs.Runs.{subgoals, left, run-stops, run-goes, run-ends, run-starts}
+use Rattle.subgoals.proofs.read_subgoals.Statement.{statement}
+use Rattle.subgoals.proofs.read_subgoals.Tie as tie
+use Rattle.subgoals.proofs.read_subgoals.Reads as reads
+use Rattle.subgoals.proofs.read_subgoals.Lts as lts
+use Rattle.subgoals.proofs.read_subgoal.Reads as read-subgoal-reads
 
 -- what is left to read gives the whole answer
 abbrev Inv-loop : tie.InvT-loop

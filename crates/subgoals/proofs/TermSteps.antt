@@ -13,11 +13,11 @@ use Rattle.words.specs.Words.{Term, var, con}
 use Rattle.layout.specs.Numbers.{numberAt}
 use Rattle.layout.specs.Reading.{Read, got, bad, badTag, badVariable, early, andThen, asVariable, asConstant, readNumber, readTagged, readTerm}
 use Rattle.layout.proofs.NumberLaws.{read-number-at, read-number-cut}
-use Rattle.rules.specs.declared.Fault.the-variants.{Tag, Variable, Early}
-use Rattle.rules.specs.declared.Marks.{Marks}
-use Rattle.rules.specs.declared.Step.{Step}
-use Rattle.rules.specs.declared.Step.the-variants.{Next, Bad}
-use Rattle.rules.specs.Marked.{stepped}
+use Rattle.subgoals.specs.declared.Fault.the-variants.{Tag, Variable, Early}
+use Rattle.subgoals.specs.declared.Marks.{Marks}
+use Rattle.subgoals.specs.declared.Step.{Step}
+use Rattle.subgoals.specs.declared.Step.the-variants.{Next, Bad}
+use Rattle.subgoals.specs.Marked.{stepped}
 
 -- the place behind what is left
 pub place-left : (s : List ℕ) (p : ℕ) → p ≤ length s → length s - length (drop p s) ≡ p

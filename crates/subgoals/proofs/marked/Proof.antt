@@ -1,8 +1,8 @@
 use mathlib.Core.Path.{sym, _∙_}
 use borrow.Author.Needs.{needs}
-use Rattle.rules.proofs.Marking.{mark-old, mark-new}
-use Rattle.rules.proofs.marked.Statement.{statement}
-use Rattle.rules.proofs.marked.Tie as tie
+use Rattle.subgoals.proofs.Marking.{mark-old, mark-new}
+use Rattle.subgoals.proofs.marked.Statement.{statement}
+use Rattle.subgoals.proofs.marked.Tie as tie
 
 returns : tie.Need-returns
 returns c = mark-old (c .before .before .before .args .m) _ _ (sym (c .before .before .holds .ensures) ∙ c .before .if1 .taken) (c .add .ensures)

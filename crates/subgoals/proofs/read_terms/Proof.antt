@@ -3,12 +3,12 @@ use Prim.Native.Nat.{_≤_, _-_}
 use native.Mathlib.Omega.{arith}
 use borrow.Author.Needs.{needs}
 use lib.ListN.{length}
-use Rattle.rules.proofs.Runs.{terms, left, run-stops, run-goes, run-ends, run-starts}
-use Rattle.rules.proofs.read_terms.Statement.{statement}
-use Rattle.rules.proofs.read_terms.Tie as tie
-use Rattle.rules.proofs.read_terms.Reads as reads
-use Rattle.rules.proofs.read_terms.Lts as lts
-use Rattle.rules.proofs.read_term.Reads as read-term-reads
+use Rattle.subgoals.proofs.Runs.{terms, left, run-stops, run-goes, run-ends, run-starts}
+use Rattle.subgoals.proofs.read_terms.Statement.{statement}
+use Rattle.subgoals.proofs.read_terms.Tie as tie
+use Rattle.subgoals.proofs.read_terms.Reads as reads
+use Rattle.subgoals.proofs.read_terms.Lts as lts
+use Rattle.subgoals.proofs.read_term.Reads as read-term-reads
 
 -- what is left to read gives the whole answer
 abbrev Inv-loop : tie.InvT-loop
