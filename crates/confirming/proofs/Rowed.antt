@@ -15,7 +15,7 @@ use Rattle.expanding.specs.Promises.{Counted, AllWords, AllOwners, AllInsides, 
 use Rattle.expanding.proofs.Beginnings.{starts-long}
 use Rattle.asking.proofs.Lent.{front-again}
 use Rattle.telling.specs.Told.{FewOf, Few}
-use Rattle.telling.proofs.Expanded.{onto-of}
+use Rattle.sending.proofs.Expanded.{onto-of}
 use Rattle.confirming.specs.Confirms.{ThereConfirms}
 use Rattle.confirming.specs.Steps.{StoodOf, Stood, StoodConfirms}
 

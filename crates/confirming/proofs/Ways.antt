@@ -23,8 +23,9 @@ use Rattle.ties.proofs.Back.{places-from}
 use Rattle.expanding.specs.Insides.{insides, starts}
 use Rattle.asking.specs.Question.{SomeSound, QuestionSource, QuestionTarget, QuestionBound}
 use Rattle.asking.proofs.Lent.{goals-few, source-widths, targets-few}
-use Rattle.telling.specs.Steps.{OntoOf, FromOf}
-use Rattle.telling.proofs.ThereLaws as there
+use Rattle.sending.specs.Steps.{OntoOf}
+use Rattle.sending.proofs.ThereLaws as there
+use Rattle.telling.specs.Steps.{FromOf}
 use Rattle.telling.proofs.BackLaws as back
 use Rattle.confirming.specs.Places.{nowhere, Before, PlaceOf, PairPlaces, BytePlaces}
 use Rattle.confirming.specs.Steps.{StoodOf, Stood}

@@ -12,7 +12,8 @@ use Rattle.words.specs.Book.{Book, admittedOf}
 use Rattle.coding.specs.Code.{ownCode, wordsOf}
 use Rattle.frame.specs.Placed.{owners}
 use Rattle.expanding.specs.Insides.{starts}
-use Rattle.telling.specs.Steps.{ListOf, FromOf}
+use Rattle.sending.specs.Steps.{ListOf}
+use Rattle.telling.specs.Steps.{FromOf}
 
 module _ (book target own begins : List ℕ) (k : ℕ) where
   -- as targets: words, the use of each, and where each use begins

@@ -1,7 +1,7 @@
 use mathlib.Core.Path.{sym}
 use native.Mathlib.Omega.{arith}
 use lib.Seq.{length-take-le}
-use Rattle.telling.proofs.Expanded.{rows-given, few-goals, words-long, owners-kept}
+use Rattle.sending.proofs.Expanded.{rows-given, few-goals, words-long, owners-kept}
 use Rattle.confirming.proofs.Rowed.{stood, there-confirmed}
 use borrow.Author.Needs.{needs}
 use Rattle.confirming.proofs.there.goes_there.Statement.{statement}

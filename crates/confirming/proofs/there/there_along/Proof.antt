@@ -2,7 +2,7 @@ use mathlib.Core.Path.{sym}
 use native.Mathlib.Omega.{arith}
 use lib.Seq.{length-take-le}
 use Rattle.asking.proofs.Lent.{goals-few, source-room, widths-room}
-use Rattle.telling.proofs.ThereLaws.{there-lent}
+use Rattle.sending.proofs.ThereLaws.{there-lent}
 use Rattle.confirming.proofs.Ways.{stood-sound, onto, there-short, there-followed}
 use borrow.Author.Needs.{needs}
 use Rattle.confirming.proofs.there.there_along.Statement.{statement}

@@ -30,9 +30,9 @@ use Rattle.expanding.specs.Insides.{insides}
 use Rattle.expanding.proofs.Read.{insides-long, insides-at}
 use Rattle.asking.specs.Question.{SomeSound, QuestionSource, QuestionBound}
 use Rattle.asking.proofs.Lent.{goals-few, source-words, source-widths}
-use Rattle.telling.specs.Told.{Serves, ThereOf}
-use Rattle.telling.specs.Steps.{OntoOf, Onto}
-use Rattle.telling.proofs.Found.{FoundAt, found-at}
+use Rattle.sending.specs.Told.{Serves, ThereOf}
+use Rattle.sending.specs.Steps.{OntoOf, Onto}
+use Rattle.sending.proofs.Found.{FoundAt, found-at}
 
 -- the pairs of places are the bytes that are written for them
 pairs-written : {A : Type 0} (ls : List (List A)) (ks own inner : List ℕ) (l : List ℕ) (i : ℕ)

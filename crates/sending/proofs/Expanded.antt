@@ -7,7 +7,7 @@ use lib.ListN.{length, take, length-map}
 use Rattle.words.specs.Words.{Term, Subgoal}
 use Rattle.words.specs.Summaries.{Own, uses, joined}
 use Rattle.words.specs.Book.{Book, admittedOf}
-use Rattle.coding.specs.Code.{ownCode, ownSlot, wordsOf, widthsOf}
+use Rattle.coding.specs.Code.{ownCode, wordsOf, widthsOf}
 use Rattle.wording.specs.Codes.{atFront}
 use Rattle.wording.proofs.Stores.{front-length}
 use Rattle.wording.proofs.WordLaws.{words-length}
@@ -22,22 +22,22 @@ use Rattle.expanding.specs.Insides.{insides}
 use Rattle.expanding.specs.Promises.{Counted, AllWords, AllOwners, AllInsides, AllWidths, AllEnds}
 use Rattle.expanding.proofs.Read.{insides-long}
 use Rattle.asking.proofs.Lent.{front-again}
-use Rattle.telling.specs.Told.{FewOf, Few, Tells, ThereTold, BackTold}
-use Rattle.telling.specs.Steps.{ListOf, OntoOf, Onto, OntoServing, OntoTold, FromOf, From, FromServing, FromTold}
+use Rattle.sending.specs.Told.{FewOf, Few, Tells, ThereTold}
+use Rattle.sending.specs.Steps.{ListOf, OntoOf, Onto, OntoServing, OntoTold}
 
 module _ {book rows : List ℕ} {k : ℕ} where
   pub rows-given : Few book rows k → RowsGiven book rows k
   rows-given t = record { value = t .value; list = t .list; is = t .is .rows-of }
 
-  list-of : {b : Book} {l : List (Subgoal (Term ℕ))} → FewOf book rows k b l → ListOf book b l
+  pub list-of : {b : Book} {l : List (Subgoal (Term ℕ))} → FewOf book rows k b l → ListOf book b l
   list-of t = record { sound = t .rows-of .sound; within = t .rows-of .within; few = let f = t .few in omega (arith, t .rows-of .count) }
 
   module _ {n : ℕ} (counted : Counted book rows k n) where
     module _ (b : Book) (l : List (Subgoal (Term ℕ))) (t : FewOf book rows k b l) where
-      abbrev all : List (Subgoal (Term (Own ℕ)))
+      abbrev pub all : List (Subgoal (Term (Own ℕ)))
       all = joined (uses (admittedOf b) 0 l)
 
-      many : n ≡ length all
+      pub many : n ≡ length all
       many = counted .is b l (t .rows-of)
 
       few-uses : n ≤ 96
@@ -85,23 +85,3 @@ module _ {book rows : List ℕ} {k : ℕ} where
 
       pub there-told : {out out′ : List ℕ} {m : ℕ} → OntoTold book (take (9 * n) w) (take n o) (take n i) out out′ m → ThereTold book rows k out out′ m
       there-told e = record { is = λ b l t serves. e .is b l (onto-of b l t) serves }
-
-    -- as sources
-    module _ {w₀ w d₀ d e₀ e : List ℕ} (words : AllWords book rows k ownSlot w₀ w) (wide : AllWidths book rows k d₀ d) (ends : AllEnds book rows k e₀ e) where
-      pub from-of : (b : Book) (l : List (Subgoal (Term ℕ))) → FewOf book rows k b l → FromOf book (take (9 * n) w) (take n d) (take n e) b l
-      from-of b l t = record {
-        list = list-of t;
-        words = front-again (wordsOf ownSlot (all b l t)) w₀ w (9 * n) (words .is b l (t .rows-of)) (omega (arith, words-length ownSlot (all b l t), many b l t));
-        wide = front-again (widthsOf (all b l t)) d₀ d n (wide .is b l (t .rows-of)) (length-map (all b l t) _ ∙ sym (many b l t));
-        ends = front-again (endsOf (uses (admittedOf b) 0 l)) e₀ e n (ends .is b l (t .rows-of)) (ends-long (uses (admittedOf b) 0 l) ∙ sym (many b l t));
-      }
-
-      pub from : Few book rows k → From book (take (9 * n) w) (take n d) (take n e)
-      from t = record { value = t .value; list = t .list; is = from-of (t .value) (t .list) (t .is) }
-
-      pub from-serving : Tells book rows k → FromServing book (take (9 * n) w) (take n d) (take n e)
-      unfolding from
-      from-serving t = record { from = from (t .some); serves = t .serves }
-
-      pub back-told : {at : ℕ} {out out′ : List ℕ} {m : ℕ} → FromTold book (take (9 * n) w) (take n d) (take n e) at out out′ m → BackTold book rows k at out out′ m
-      back-told f = record { is = λ b l t serves. f .is b l (from-of b l t) serves }

@@ -2,10 +2,10 @@ use mathlib.Core.Path.{sym}
 use native.Mathlib.Omega.{arith}
 use lib.Seq.{length-take-le}
 use Rattle.asking.proofs.Lent.{goals-few, source-room, widths-room}
-use Rattle.telling.proofs.ThereLaws.{some-sound, there-lent, there-paired, there-of}
+use Rattle.sending.proofs.ThereLaws.{some-sound, there-lent, there-paired, there-of}
 use borrow.Author.Needs.{needs}
-use Rattle.telling.proofs.there.there_onto.Statement.{statement}
-use Rattle.telling.proofs.there.there_onto.Tie as tie
+use Rattle.sending.proofs.there_onto.Statement.{statement}
+use Rattle.sending.proofs.there_onto.Tie as tie
 
 question-source-requires : tie.Need-question-source-requires
 question-source-requires c κs =

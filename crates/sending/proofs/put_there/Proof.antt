@@ -1,10 +1,10 @@
 use mathlib.Core.Path.{sym}
 use native.Mathlib.Omega.{arith}
 use lib.Seq.{length-take-le}
-use Rattle.telling.proofs.Expanded.{rows-given, few-goals, words-long, owners-kept, insides-kept, onto-serving, there-told}
+use Rattle.sending.proofs.Expanded.{rows-given, few-goals, words-long, owners-kept, insides-kept, onto-serving, there-told}
 use borrow.Author.Needs.{needs}
-use Rattle.telling.proofs.there.put_there.Statement.{statement}
-use Rattle.telling.proofs.there.put_there.Tie as tie
+use Rattle.sending.proofs.put_there.Statement.{statement}
+use Rattle.sending.proofs.put_there.Tie as tie
 
 expand-requires : tie.Need-expand-requires
 expand-requires c κs =
