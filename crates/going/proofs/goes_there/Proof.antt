@@ -2,10 +2,10 @@ use mathlib.Core.Path.{sym}
 use native.Mathlib.Omega.{arith}
 use lib.Seq.{length-take-le}
 use Rattle.sending.proofs.Expanded.{rows-given, few-goals, words-long, owners-kept}
-use Rattle.confirming.proofs.Rowed.{stood, there-confirmed}
+use Rattle.going.proofs.Rowed.{stood, there-confirmed}
 use borrow.Author.Needs.{needs}
-use Rattle.confirming.proofs.there.goes_there.Statement.{statement}
-use Rattle.confirming.proofs.there.goes_there.Tie as tie
+use Rattle.going.proofs.goes_there.Statement.{statement}
+use Rattle.going.proofs.goes_there.Tie as tie
 
 expand-requires : tie.Need-expand-requires
 expand-requires c κs =

@@ -14,10 +14,10 @@ use Rattle.expanding.specs.Insides.{starts}
 use Rattle.expanding.specs.Promises.{Counted, AllWords, AllOwners, AllInsides, AllStarts}
 use Rattle.expanding.proofs.Beginnings.{starts-long}
 use Rattle.asking.proofs.Lent.{front-again}
-use Rattle.telling.specs.Told.{FewOf, Few}
+use Rattle.sending.specs.Told.{FewOf, Few}
 use Rattle.sending.proofs.Expanded.{onto-of}
-use Rattle.confirming.specs.Confirms.{ThereConfirms}
-use Rattle.confirming.specs.Steps.{StoodOf, Stood, StoodConfirms}
+use Rattle.going.specs.Confirms.{ThereConfirms}
+use Rattle.going.specs.Steps.{StoodOf, Stood, StoodConfirms}
 
 module _ {book rows : List ℕ} {k n : ℕ} (counted : Counted book rows k n) {o₀ o w₀ w i₀ i s₀ s : List ℕ}
     (words : AllWords book rows k ownCode w₀ w) (owns : AllOwners book rows k o₀ o) (inners : AllInsides book rows k i₀ i) (begins : AllStarts book rows k s₀ s) where

@@ -4,7 +4,7 @@ use Prim.Native.Nat.{ℕ, suc, _+_, _-_, _<_, _≤_}
 use mathlib.Core.List.{List}
 use native.Mathlib.Omega.{arith}
 use lib.ListN.{getD}
-use Rattle.confirming.specs.Places.{nowhere, InUse, PlaceOf}
+use Rattle.going.specs.Places.{nowhere, InUse, PlaceOf}
 
 module _ (starts : List ℕ) (k row inner : ℕ) where
   -- past every target, for a reason that no place could stand

@@ -3,10 +3,10 @@ use native.Mathlib.Omega.{arith}
 use lib.Seq.{length-take-le}
 use Rattle.asking.proofs.Lent.{goals-few, source-room, widths-room}
 use Rattle.sending.proofs.ThereLaws.{there-lent}
-use Rattle.confirming.proofs.Ways.{stood-sound, onto, there-short, there-followed}
+use Rattle.going.proofs.Ways.{stood-sound, onto, there-short, there-followed}
 use borrow.Author.Needs.{needs}
-use Rattle.confirming.proofs.there.there_along.Statement.{statement}
-use Rattle.confirming.proofs.there.there_along.Tie as tie
+use Rattle.going.proofs.there_along.Statement.{statement}
+use Rattle.going.proofs.there_along.Tie as tie
 
 question-source-requires : tie.Need-question-source-requires
 question-source-requires c κs =

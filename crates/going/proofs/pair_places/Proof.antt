@@ -2,10 +2,10 @@ use borrow.Author.Needs.{needs}
 use mathlib.Core.Path.{refl}
 use Prim.Native.Nat.{_≤_, _-_}
 use native.Mathlib.Omega.{arith}
-use Rattle.confirming.specs.Places.{PairPlaces}
-use Rattle.confirming.proofs.Storing.{pairs-start, pairs-more, pairs-end}
-use Rattle.confirming.proofs.there.pair_places.Statement.{statement}
-use Rattle.confirming.proofs.there.pair_places.Tie as tie
+use Rattle.going.specs.Places.{PairPlaces}
+use Rattle.going.proofs.Storing.{pairs-start, pairs-more, pairs-end}
+use Rattle.going.proofs.pair_places.Statement.{statement}
+use Rattle.going.proofs.pair_places.Tie as tie
 
 -- the pairs so far
 abbrev Inv-loop : tie.InvT-loop

@@ -2,11 +2,11 @@ use mathlib.Core.Path.{_≡_, refl, sym, ap, _∙_}
 use Prim.Native.Nat.{ℕ, suc, _+_, _-_, _<_}
 use native.Mathlib.Omega.{arith}
 use lib.ListN.{getD}
-use Rattle.confirming.specs.Places.{PlaceOf}
-use Rattle.confirming.proofs.Placing.{no-place, no-row, no-inner, past-use, in-use}
+use Rattle.going.specs.Places.{PlaceOf}
+use Rattle.going.proofs.Placing.{no-place, no-row, no-inner, past-use, in-use}
 use borrow.Author.Needs.{needs}
-use Rattle.confirming.proofs.there.place_of.Statement.{statement}
-use Rattle.confirming.proofs.there.place_of.Tie as tie
+use Rattle.going.proofs.place_of.Statement.{statement}
+use Rattle.going.proofs.place_of.Tie as tie
 
 returns : tie.Need-returns
 returns c =
