@@ -17,8 +17,8 @@ use Rattle.layout.specs.Contents.{count, entriesIn, offsetAt, lengthAt, partAt}
 use Rattle.layout.specs.Refusals.{mostAt, SoundEntry, Reached, Refusal, six, seven, eight, Loads, Passes, Reads}
 use Rattle.layout.proofs.Within.{part-lent}
 use Rattle.layout.proofs.BookUnique.{reads-unique, sound-exactly}
-use Rattle.rules.specs.declared.Fault.{Fault}
-use Rattle.rules.specs.declared.Fault.the-variants.{Count, Relation, Tag, Variable, Early, Over}
+use Rattle.subgoals.specs.declared.Fault.{Fault}
+use Rattle.subgoals.specs.declared.Fault.the-variants.{Count, Relation, Tag, Variable, Early, Over}
 use Rattle.rules.specs.declared.Verdict.{Verdict}
 use Rattle.rules.specs.declared.Verdict.the-variants.{Sound, Broken, Unsafe, Repeats}
 use Rattle.rules.specs.Judged.{Judged, refusalNumber}

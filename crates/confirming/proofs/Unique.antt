@@ -5,11 +5,8 @@ use mathlib.Core.List.{List}
 use Prim.Native.Nat.{ℕ}
 use Rattle.bits.proofs.Laws.{exactly-once}
 use Rattle.telling.specs.Told.{Few}
-use Rattle.confirming.specs.Confirms.{ThereConfirms, BackConfirms}
+use Rattle.confirming.specs.Confirms.{BackConfirms}
 
 module _ {book rows : List ℕ} {k : ℕ} (w : Few book rows k) (witness : List ℕ) (r s : Bool) where
-  pub there-once : ThereConfirms book rows k witness r → ThereConfirms book rows k witness s → r ≡ s
-  there-once f g = exactly-once r s (f .exactly (w .value) (w .list) (w .is)) (g .exactly (w .value) (w .list) (w .is))
-
   pub back-once : BackConfirms book rows k witness r → BackConfirms book rows k witness s → r ≡ s
   back-once f g = exactly-once r s (f .exactly (w .value) (w .list) (w .is)) (g .exactly (w .value) (w .list) (w .is))

@@ -1,4 +1,5 @@
--- What is promised of each part of a witness, of every value of the book and every list whose words the rows are.
+-- What is promised of the second part of a witness, of every value of the book and every list whose words the rows are.
+-- What is promised of the first part is passed on.
 use mathlib.Core.Path.{_≡_}
 use mathlib.Core.Bool.{Bool, true}
 use mathlib.Core.Logic.{_↔_}
@@ -6,15 +7,12 @@ use mathlib.Core.List.{List}
 use Prim.Native.Nat.{ℕ}
 use Rattle.words.specs.Words.{Term, Subgoal}
 use Rattle.words.specs.Summaries.{rewriting}
-use Rattle.words.specs.Answer.{There, Back}
+use Rattle.words.specs.Answer.{Back}
 use Rattle.words.specs.Book.{Book, admittedOf}
 use Rattle.telling.specs.Told.{FewOf}
+pub use Rattle.going.specs.Confirms.{ThereConfirms}
 
 module _ (book rows : List ℕ) (k : ℕ) (witness : List ℕ) (answer : Bool) where
-  -- "both parts are containment mappings": the first, no byte over and none missing
-  pub record ThereConfirms : Type 0 where
-    pub exactly : (b : Book) (l : List (Subgoal (Term ℕ))) → FewOf book rows k b l → (answer ≡ true) ↔ There (admittedOf b) (b .question) (rewriting (b .question) l) witness
-
-  -- and the second
+  -- "both parts are containment mappings": the second, no byte over and none missing
   pub record BackConfirms : Type 0 where
     pub exactly : (b : Book) (l : List (Subgoal (Term ℕ))) → FewOf book rows k b l → (answer ≡ true) ↔ Back (admittedOf b) (b .question) (rewriting (b .question) l) witness

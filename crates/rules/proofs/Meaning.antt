@@ -8,8 +8,8 @@ use native.Mathlib.Omega.{arith}
 use Rattle.words.specs.Words.{_∈_, Term, var, con, Subgoal, Rule, Safe, DistinctVariables}
 use Rattle.bits.specs.Sets.{Has, has, with}
 use Rattle.bits.proofs.Laws.{has-none, has-true, true-has, with-new, with-old, with-cases}
-use Rattle.rules.specs.declared.Marks.{Marks}
-use Rattle.rules.specs.Marked.{none, mark, marks, ofGoal, goalMarks}
+use Rattle.subgoals.specs.declared.Marks.{Marks}
+use Rattle.subgoals.specs.Marked.{none, mark, marks, ofGoal, goalMarks}
 
 -- one term
 mark-keeps : (m : Marks) (t : Term ℕ) (x : ℕ) → Has (m .vars) x → Has (mark m t .vars) x

@@ -7,8 +7,8 @@ use Rattle.words.specs.Words.{Rule, Safe, DistinctVariables}
 use Rattle.layout.specs.RuleLayout.{Layout}
 use Rattle.layout.specs.Reading.{bad, readRule}
 use Rattle.layout.specs.Reading as reading
-use Rattle.rules.specs.declared.Fault.{Fault}
-use Rattle.rules.specs.declared.Fault.the-variants.{Count, Relation, Tag, Variable, Early, Over}
+use Rattle.subgoals.specs.declared.Fault.{Fault}
+use Rattle.subgoals.specs.declared.Fault.the-variants.{Count, Relation, Tag, Variable, Early, Over}
 use Rattle.rules.specs.declared.Verdict.{Verdict}
 use Rattle.rules.specs.declared.Verdict.the-variants.{Sound, Broken, Unsafe, Repeats}
 

@@ -23,7 +23,7 @@ use Rattle.asking.specs.Question.{SomeSound, QuestionTarget, QuestionBound}
 use Rattle.asking.proofs.Lent.{zeros-at, targets-few, target-words}
 use Rattle.telling.specs.Told.{Serves, BackOf}
 use Rattle.telling.specs.Steps.{FromOf, From}
-use Rattle.telling.proofs.Found.{FoundAt, found-at}
+use Rattle.sending.proofs.Found.{FoundAt, found-at}
 
 -- the places are the bytes that are written for them
 places-written : (ks l : List ℕ) (i : ℕ) → ((j : ℕ) → j < length l → getD ks (i + j) 0 ≡ getD l j 0) → placeBytes ks i (length l) ≡ map suc l

@@ -1,5 +1,3 @@
-pub mod Found
-pub mod ThereLaws
 pub mod BackLaws
-pub mod Expanded
+pub mod Sourced
 pub mod Unique

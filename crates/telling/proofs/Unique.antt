@@ -1,4 +1,4 @@
--- Any two results that meet a promise are the same: each part of the witness is the first by an order.
+-- Any two results that meet a promise are the same: the second part of the witness is the first by an order.
 use mathlib.Core.Path.{_≡_, sym, ap, _∙_}
 use mathlib.Core.List.{List}
 use Prim.Native.Nat.{ℕ}
@@ -6,16 +6,9 @@ use lib.ListN.{length}
 use lib.Seq.{sets}
 use Rattle.words.specs.Strict.{first-unique}
 use Rattle.words.specs.Orders.{bytesOrder}
-use Rattle.telling.specs.Told.{Tells, ThereTold, BackTold}
+use Rattle.telling.specs.Told.{Tells, BackTold}
 
 module _ {book rows : List ℕ} {k : ℕ} (w : Tells book rows k) where
-  pub there-once : {before after other : List ℕ} {n m : ℕ} → ThereTold book rows k before after n → ThereTold book rows k before other m → (n ≡ m) × (after ≡ other)
-  there-once {before} s t =
-      let a = s .is (w .some .value) (w .some .list) (w .some .is) (w .serves) in
-      let b = t .is (w .some .value) (w .some .list) (w .some .is) (w .serves) in
-      let e = first-unique bytesOrder (a .bytes) (b .bytes) (a .first) (b .first) in
-      (a .long ∙ ap length e ∙ sym (b .long), a .written ∙ ap (sets before 0) e ∙ sym (b .written))
-
   pub back-once : {at : ℕ} {before after other : List ℕ} {n m : ℕ} → BackTold book rows k at before after n → BackTold book rows k at before other m → (n ≡ m) × (after ≡ other)
   back-once {at} {before} s t =
       let a = s .is (w .some .value) (w .some .list) (w .some .is) (w .serves) in

@@ -10,23 +10,18 @@ use Rattle.bits.proofs.within.Reads as within-reads
 use Rattle.rules.proofs.broken.Reads as broken-reads
 use Rattle.rules.proofs.read_rule.Reads as read-rule-reads
 
--- src/lib.rt:230:9
 returns : tie.Need-returns
 returns c = let a = c .before .before .before .before .before .before .args in judged-broken (a .relations .now) (a .most) (a .summary) (a .body .now) _ _ _ (c .before .before .before .read-rule .ensures) (c .before .enum-told .given .1) (c .broken .ensures)
 
--- src/lib.rt:233:9
 returns-2 : tie.Need-returns-2
 returns-2 c = let a = c .before .before .before .before .before .before .before .before .args in judged-unsafe (a .relations .now) (a .most) (a .summary) (a .body .now) (λ i. omega (arith, c .before .before .before .before .before .before .before .shared-slice-known .given i)) _ _ _ (c .before .before .before .before .before .read-rule .ensures) (c .before .before .before .read .given .1) _ (c .before .within .ensures) (not-true _ (c .if1 .taken))
 
--- src/lib.rt:236:9
 returns-3 : tie.Need-returns-3
 returns-3 c = let a = c .before .before .before .before .before .before .before .before .before .args in judged-plain (a .relations .now) (a .most) (a .summary) (a .body .now) (λ i. omega (arith, c .before .before .before .before .before .before .before .before .shared-slice-known .given i)) _ _ _ (c .before .before .before .before .before .before .read-rule .ensures) (c .before .before .before .before .read .given .1) _ (c .before .before .within .ensures) (not-false _ (c .before .if1 .left)) (c .if2 .taken)
 
--- src/lib.rt:239:9
 returns-4 : tie.Need-returns-4
 returns-4 c = let a = c .before .before .before .before .before .before .before .before .before .before .args in judged-repeating (a .relations .now) (a .most) (a .summary) (a .body .now) (λ i. omega (arith, c .before .before .before .before .before .before .before .before .before .shared-slice-known .given i)) _ _ _ (c .before .before .before .before .before .before .before .read-rule .ensures) (c .before .before .before .before .before .read .given .1) _ (c .before .before .before .within .ensures) (not-false _ (c .before .before .if1 .left)) (c .before .if2 .left) (c .if3 .taken)
 
--- src/lib.rt:225:1
 returns-5 : tie.Need-returns-5
 returns-5 c = let a = c .before .before .before .before .before .before .before .before .before .before .args in judged-question (a .relations .now) (a .most) (a .summary) (a .body .now) (λ i. omega (arith, c .before .before .before .before .before .before .before .before .before .shared-slice-known .given i)) _ _ _ (c .before .before .before .before .before .before .before .read-rule .ensures) (c .before .before .before .before .before .read .given .1) _ (c .before .before .before .within .ensures) (not-false _ (c .before .before .if1 .left)) (c .if3 .left)
 

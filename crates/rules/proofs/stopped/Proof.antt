@@ -1,6 +1,6 @@
 use mathlib.Core.Path.{_≡_, ap, sym, _∙_}
 use borrow.Author.Needs.{needs}
-use Rattle.rules.specs.Marked.{stoppedBy}
+use Rattle.rules.specs.Wholes.{stoppedBy}
 use Rattle.rules.proofs.stopped.Statement.{statement}
 use Rattle.rules.proofs.stopped.Tie as tie
 use Rattle.rules.proofs.stopped.Reads as reads

@@ -1,7 +1,8 @@
 use mathlib.Core.Path.{sym}
 use native.Mathlib.Omega.{arith}
 use lib.Seq.{length-take-le}
-use Rattle.telling.proofs.Expanded.{rows-given, few-goals, words-long, widths-kept, ends-kept, from-of, from}
+use Rattle.sending.proofs.Expanded.{rows-given, few-goals, words-long, widths-kept, ends-kept}
+use Rattle.telling.proofs.Sourced.{from-of, from}
 use borrow.Author.Needs.{needs}
 use Rattle.confirming.proofs.back.comes_back.Statement.{statement}
 use Rattle.confirming.proofs.back.comes_back.Tie as tie

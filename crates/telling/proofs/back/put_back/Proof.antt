@@ -1,7 +1,8 @@
 use mathlib.Core.Path.{sym}
 use native.Mathlib.Omega.{arith}
 use lib.Seq.{length-take-le}
-use Rattle.telling.proofs.Expanded.{rows-given, few-goals, words-long, widths-kept, ends-kept, from-serving, back-told}
+use Rattle.sending.proofs.Expanded.{rows-given, few-goals, words-long, widths-kept, ends-kept}
+use Rattle.telling.proofs.Sourced.{from-serving, back-told}
 use borrow.Author.Needs.{needs}
 use Rattle.telling.proofs.back.put_back.Statement.{statement}
 use Rattle.telling.proofs.back.put_back.Tie as tie

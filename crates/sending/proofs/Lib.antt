@@ -1,0 +1,4 @@
+pub mod Found
+pub mod Expanded
+pub mod ThereLaws
+pub mod Unique

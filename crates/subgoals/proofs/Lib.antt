@@ -1,0 +1,4 @@
+pub mod Marking
+pub mod TermSteps
+pub mod GoalSteps
+pub mod Runs
