@@ -5,7 +5,7 @@ use Prim.Native.Nat.{ℕ, zero, suc, _+_, _*_, _/_, _%_, _^_, _-_, _<_, _≤_, m
 use native.Mathlib.Omega.{arith}
 use native.Mathlib.Decide.{decLt}
 use native.Mathlib.Nat.{two-pow-succ, div-eq-of-lt}
-use mathlib.Core.Bool.{Bool, true, false}
+use mathlib.Core.Bool.{Bool, true, false, false≢true}
 use borrow.Author.Tests.{eqb-true, eq-eqb}
 use lib.Bits.{bitOr, bitAnd, or-step, or-shr, or-comm, or-zero-l, and-step, and-shr}
 use lib.Pow.{shl-shr, shl-exact, shr-shr, shr-le, pow-add, pow-lt, field, mod-mod-pow, ones-split, high, ones-lt}
@@ -159,6 +159,13 @@ all-has x h =
 -- two sets with the same members are the same
 pub same-members : (a b : ℕ) → ((x : ℕ) → Has a x ↔ Has b x) → a ≡ b
 same-members a b h = sym (or-within b a (λ x. h x .1)) ∙ or-comm b a ∙ or-within a b (λ x. h x .0)
+
+-- an answer that is true exactly if something holds, where it does and where it does not
+pub exactly-yes : {P : Type 0} → P → (true ≡ true) ↔ P
+exactly-yes p = (λ e. p, λ q. refl)
+
+pub exactly-no : {P : Type 0} → (P → ⊥) → (false ≡ true) ↔ P
+exactly-no f = (λ e. absurd (false≢true e), λ p. absurd (f p))
 
 -- two answers that are true exactly if the same thing holds are the same
 pub exactly-once : {P : Type 0} (r s : Bool) → (r ≡ true) ↔ P → (s ≡ true) ↔ P → r ≡ s

@@ -19,7 +19,7 @@ use Rattle.promise.proofs.Rooms.{there-long}
 use Rattle.asking.specs.Question.{SomeSound}
 use Rattle.telling.specs.Told.{FewOf, Few}
 use Rattle.confirming.specs.Confirms.{ThereConfirms, BackConfirms}
-use Rattle.confirming.proofs.Ways.{false-only}
+use Rattle.bits.proofs.Laws.{exactly-no}
 use Rattle.checker.specs.Steps.{QuestionGoals, Witness, Confirms}
 
 pub goals-are : {book body : List ℕ} {n : ℕ} → body ≡ partAt book 1 → GoalCount body n → QuestionGoals book n
@@ -38,7 +38,7 @@ module _ {book rows : List ℕ} {k : ℕ} {n : ℕ} (goals : QuestionGoals book 
     first-long b l t w = there-long (admittedOf b) (b .question) (rewriting (b .question) l) (w .there) (w .goes) ∙ ap (λ m. 2 * m) (sym (goals .is b (t .rows-of .sound)))
 
     pub too-short : length witness < 2 * n → Confirms book rows k witness false
-    too-short h = record { exactly = λ b l t. false-only (λ w. omega (arith, first-long b l t w, ap length (w .whole), length-append (w .there) (w .back))) }
+    too-short h = record { exactly = λ b l t. exactly-no (λ w. omega (arith, first-long b l t w, ap length (w .whole), length-append (w .there) (w .back))) }
 
     first-is : (b : Book) (l : List (Subgoal (Term ℕ))) → FewOf book rows k b l → (w : Witness b l witness) → take (2 * n) witness ≡ w .there
     first-is b l t w = ap (take (2 * n)) (w .whole) ∙ take-at (w .there) (w .back) (2 * n) (first-long b l t w)
@@ -48,7 +48,7 @@ module _ {book rows : List ℕ} {k : ℕ} {n : ℕ} (goals : QuestionGoals book 
 
     module _ {first : Bool} (there : ThereConfirms book rows k (take (2 * n) witness) first) where
       pub not-there : first ≡ false → Confirms book rows k witness false
-      not-there e = record { exactly = λ b l t. false-only (λ w. false≢true (sym e ∙ there .exactly b l t .1 (subst (There (admittedOf b) (b .question) (rewriting (b .question) l)) (sym (first-is b l t w)) (w .goes)))) }
+      not-there e = record { exactly = λ b l t. exactly-no (λ w. false≢true (sym e ∙ there .exactly b l t .1 (subst (There (admittedOf b) (b .question) (rewriting (b .question) l)) (sym (first-is b l t w)) (w .goes)))) }
 
       pub both-parts : first ≡ true → {second : Bool} → BackConfirms book rows k (take (length witness - 2 * n) (drop (2 * n) witness)) second → Confirms book rows k witness second
       both-parts e {second} back = record {

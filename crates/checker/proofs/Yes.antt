@@ -25,13 +25,13 @@ use Rattle.truth.specs.Truth.{RewritingRule, Truth, Checks}
 use Rattle.truth.proofs.AsRule.{rule-once}
 use Rattle.proposed.specs.Proposed.{IsProposed, Proposed, empty}
 use Rattle.proposed.specs.declared.Proposal.{Proposal}
-use Rattle.confirming.proofs.Ways.{false-only}
+use Rattle.bits.proofs.Laws.{exactly-no}
 use Rattle.checker.specs.Steps.{Witness, Confirms}
 
 module _ {book bytes : List ℕ} {r : Proposal} (p : Proposed book bytes r) where
   -- no rule: nothing is true of it
   pub no-rule : {witness : List ℕ} → r .count ≡ 0 → Checks book bytes witness false
-  no-rule e = record { exactly = false-only (λ t. p .none (t .value) (t .sound) e .none (t .rule) (t .is) (t .written)) }
+  no-rule e = record { exactly = exactly-no (λ t. p .none (t .value) (t .sound) e .none (t .rule) (t .is) (t .written)) }
 
   module _ (w : SomeSound book) (some : 1 ≤ r .count) where
     abbrev b : Book
@@ -101,4 +101,4 @@ module _ {book : List ℕ} {r : Reading} (says : ReadingSays book r) where
   read-sound e = let v = subst (ReadingSays book) e says in record { value = v .0; sound = v .1 }
 
   pub read-refused : {bytes witness : List ℕ} {k p : ℕ} → r ≡ Refused k p → Checks book bytes witness false
-  read-refused e = record { exactly = false-only (λ t. sound-unrefused (t .sound) (subst (ReadingSays book) e says)) }
+  read-refused e = record { exactly = exactly-no (λ t. sound-unrefused (t .sound) (subst (ReadingSays book) e says)) }

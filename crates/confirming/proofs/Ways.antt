@@ -20,14 +20,14 @@ use Rattle.asking.proofs.Lent.{targets-few}
 use Rattle.telling.specs.Steps.{FromOf}
 use Rattle.telling.proofs.BackLaws as back
 use Rattle.going.specs.Places.{nowhere}
-pub use Rattle.going.proofs.Ways.{false-only}
+use Rattle.bits.proofs.Laws.{exactly-no}
 use Rattle.confirming.specs.Places.{Before, BytePlaces}
 use Rattle.confirming.proofs.Named.{bytes-named, named-bytes}
 
 -- A part of another length is none.
 pub back-short : {book source widths lasts : List ℕ} (b : Book) (l : List (Subgoal (Term ℕ))) → FromOf book source widths lasts b l
     → {witness : List ℕ} → (length witness ≡ length widths → ⊥) → (false ≡ true) ↔ Back (admittedOf b) (b .question) (rewriting (b .question) l) witness
-back-short b l o {witness} h = false-only (λ t. h (back-long (admittedOf b) (b .question) (rewriting (b .question) l) witness t ∙ sym (ap length (o .wide) ∙ length-map (joined (uses (admittedOf b) 0 l)) _)))
+back-short b l o {witness} h = exactly-no (λ t. h (back-long (admittedOf b) (b .question) (rewriting (b .question) l) witness t ∙ sym (ap length (o .wide) ∙ length-map (joined (uses (admittedOf b) 0 l)) _)))
 
 module _ {book source widths lasts : List ℕ} (b : Book) (l : List (Subgoal (Term ℕ))) (o : FromOf book source widths lasts b l) where
   abbrev Returns : List ℕ → Type 0

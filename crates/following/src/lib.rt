@@ -11,8 +11,8 @@ use placing::stands;
 use placing::width;
 
 // A place as an index.
-fn wide(k: u16) -> usize
-    ensures { λ r. ⌜ r ≡ k ⌝ }
+pub fn wide(k: u16) -> usize
+    ensures { λ r. ⌜ (r ≡ k) × (r < 65536) ⌝ }
 {
     k as usize
 }

@@ -24,17 +24,15 @@ use Rattle.asking.specs.Question.{SomeSound, QuestionSource, QuestionBound}
 use Rattle.asking.proofs.Lent.{goals-few, source-widths}
 use Rattle.sending.specs.Steps.{OntoOf}
 use Rattle.sending.proofs.ThereLaws as there
+use Rattle.bits.proofs.Laws.{exactly-no}
 use Rattle.going.specs.Places.{nowhere, PlaceOf, PairPlaces}
 use Rattle.going.specs.Steps.{StoodOf, Stood}
 use Rattle.going.proofs.Named.{pairs-named, named-pairs}
 
-pub false-only : {P : Type 0} → (P → ⊥) → (false ≡ true) ↔ P
-false-only h = (λ e. absurd (false≢true e), λ p. absurd (h p))
-
 -- A part of another length is none.
 pub there-short : {book target own begins : List ℕ} {k : ℕ} (b : Book) (l : List (Subgoal (Term ℕ))) → StoodOf book target own begins k b l → {before after old new : List ℕ} {n : ℕ} → QuestionSource book before after old new n
     → {witness : List ℕ} → (length witness ≡ 2 * n → ⊥) → (false ≡ true) ↔ There (admittedOf b) (b .question) (rewriting (b .question) l) witness
-there-short b l o source {witness} h = false-only (λ t. h (omega (arith, there-long (admittedOf b) (b .question) (rewriting (b .question) l) witness t, source .count b (o .list .sound))))
+there-short b l o source {witness} h = exactly-no (λ t. h (omega (arith, there-long (admittedOf b) (b .question) (rewriting (b .question) l) witness t, source .count b (o .list .sound))))
 
 -- The way there.
 module _ {book target own begins : List ℕ} {k : ℕ} (b : Book) (l : List (Subgoal (Term ℕ))) (o : StoodOf book target own begins k b l)

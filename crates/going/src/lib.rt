@@ -12,13 +12,7 @@ use asking::question_source;
 use expanding::all::expand;
 use expanding::all::use_starts;
 use following::follows;
-
-// A beginning as a place.
-fn wide(x: u16) -> usize
-    ensures { λ r. ⌜ (r ≡ x) × (r < 65536) ⌝ }
-{
-    x as usize
-}
+use following::wide;
 
 // The place among all subgoals of a pair of bytes, or one that is past them all. Between the beginnings of two uses lies the first one's own.
 fn place_of(starts: &[u16; 13], k: usize, row: u8, inner: u8) -> u16

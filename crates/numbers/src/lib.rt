@@ -5,10 +5,17 @@ ghost use lib.ListN.{length};
 ghost use Rattle.layout.specs.Numbers.{numberAt};
 
 // A byte as a wider number, with its bound.
-fn wide(x: u8) -> u16
+fn short(x: u8) -> u16
     ensures { λ r. ⌜ (r ≡ x) × (r < 256) ⌝ }
 {
     x as u16
+}
+
+// A byte as a count or a place, with its bound.
+pub fn wide(x: u8) -> usize
+    ensures { λ r. ⌜ (r ≡ x) × (r < 256) ⌝ }
+{
+    x as usize
 }
 
 // The number in the two bytes from `at` on, which the caller has seen to be there.
@@ -16,7 +23,7 @@ pub fn u16_at(bytes: &[u8], at: usize) -> u16
     requires { ⌜ at + 2 ≤ length (now bytes) ⌝ }
     ensures { λ r. ⌜ r ≡ numberAt 2 (now (bytes .entry)) at ⌝ }
 {
-    wide(bytes[at]) + 256 * wide(bytes[at + 1])
+    short(bytes[at]) + 256 * short(bytes[at + 1])
 }
 
 // The number in the four bytes from `at` on, which the caller has seen to be there.

@@ -14,7 +14,7 @@ use Rattle.ties.proofs.Read.{read-term}
 use Rattle.wording.proofs.WordLaws.{padded-length}
 use Rattle.builders.specs.Heads.{HeadWords}
 use Rattle.proposed.specs.Tests.{SameHeads}
-use Rattle.proposed.proofs.Says.{says-yes, says-no}
+use Rattle.bits.proofs.Laws.{exactly-yes, exactly-no}
 
 -- a word says which term it is, and is not that of an end
 code-once : (t u : Term ℕ) → TermWithin t → TermWithin u → termCode t ≡ termCode u → t ≡ u
@@ -37,7 +37,7 @@ padded-once (suc n) (t ∷ ts) (u ∷ us) l m h k e = ap₂ _∷_
 module _ {a b x y : List ℕ} (left : HeadWords a x) (right : HeadWords b y) where
   -- the words are all the same
   pub heads-same : ((k : ℕ) → k < 8 → getD x k 0 ≡ getD y k 0) → SameHeads a b true
-  heads-same all = record { exactly = λ arities most p l known few q o. says-yes (once arities most p l known few q o) }
+  heads-same all = record { exactly = λ arities most p l known few q o. exactly-yes (once arities most p l known few q o) }
     where
       once : (arities : List ℕ) (most : ℕ) (p : Rule ℕ) → Layout arities most a p → (known : List ℕ) (few : ℕ) (q : Rule ℕ) → Layout known few b q → p .head ≡ q .head
       once arities most p l known few q o =
@@ -49,5 +49,5 @@ module _ {a b x y : List ℕ} (left : HeadWords a x) (right : HeadWords b y) whe
   -- one of them differs
   pub heads-differ : (k : ℕ) → (getD x k 0 ≡ getD y k 0 → ⊥) → SameHeads a b false
   heads-differ k d = record {
-    exactly = λ arities most p l known few q o. says-no (λ e. d (ap (λ w. getD w k 0) (left .is arities most p l ∙ ap (λ ts. padded 8 (map termCode ts)) e ∙ sym (right .is known few q o))));
+    exactly = λ arities most p l known few q o. exactly-no (λ e. d (ap (λ w. getD w k 0) (left .is arities most p l ∙ ap (λ ts. padded 8 (map termCode ts)) e ∙ sym (right .is known few q o))));
   }

@@ -9,7 +9,7 @@ use Rattle.rules.specs.declared.Verdict.the-variants.{Sound, Broken, Unsafe, Re
 use Rattle.rules.specs.Judged.{Judged}
 use Rattle.wording.specs.Laid.{Laid}
 use Rattle.proposed.specs.Tests.{LaidOut}
-use Rattle.proposed.proofs.Says.{says-yes, says-no}
+use Rattle.bits.proofs.Laws.{exactly-yes, exactly-no}
 
 -- every rule that is not broken has it
 abbrev pub ruled : Verdict → Bool
@@ -22,10 +22,10 @@ pub laid-by : (lengths rewriting : List ℕ) (v w : Verdict) → Judged lengths 
 laid-by lengths rewriting v w j e = go w (subst (Judged lengths questionMost false rewriting) e j)
   where
     go : (w : Verdict) → Judged lengths questionMost false rewriting w → LaidOut lengths rewriting (ruled w)
-    go Sound x = record { exactly = says-yes (x .rule, x .layout) }
-    go (Broken f) x = record { exactly = says-no (λ o. x .none (o .0) (o .1)) }
-    go Unsafe x = record { exactly = says-yes (x .rule, x .layout) }
-    go Repeats x = record { exactly = says-yes (x .rule, x .layout) }
+    go Sound x = record { exactly = exactly-yes (x .rule, x .layout) }
+    go (Broken f) x = record { exactly = exactly-no (λ o. x .none (o .0) (o .1)) }
+    go Unsafe x = record { exactly = exactly-yes (x .rule, x .layout) }
+    go Repeats x = record { exactly = exactly-yes (x .rule, x .layout) }
 
 pub laid-some : {lengths rewriting : List ℕ} {r : Bool} → LaidOut lengths rewriting r → r ≡ true → Laid rewriting
 laid-some {lengths} l t = let o = l .exactly .0 t in record { arities = lengths; most = questionMost; rule = o .0; layout = o .1 }

@@ -4,11 +4,11 @@ ghost use Rattle.layout.specs.Reading.{readRule};
 ghost use Rattle.subgoals.specs.Marked.{none};
 ghost use Rattle.rules.specs.Wholes.{stoppedBy, wholeOf, brokenBy};
 ghost use Rattle.rules.specs.Judged.{Judged};
+use numbers::wide;
 use subgoals::Marks;
 use subgoals::Step;
 use subgoals::read_subgoals;
 use subgoals::read_terms;
-use subgoals::wide;
 // a verdict tells the fault, so those who ask for one find it here
 pub use subgoals::Fault;
 

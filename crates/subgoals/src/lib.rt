@@ -5,6 +5,7 @@ ghost use lib.ListN.{length, drop};
 ghost use Rattle.words.specs.Words.{var, con};
 ghost use Rattle.layout.specs.Reading.{readTerm, readMany, readSubgoal};
 ghost use Rattle.subgoals.specs.Marked.{mark, marks, goalMarks, ofGoal, stepped};
+use numbers::wide;
 
 // The ways to break the layout.
 pub enum Fault {
@@ -26,13 +27,6 @@ pub struct Marks {
 pub enum Step {
     Next(usize, Marks),
     Bad(Fault),
-}
-
-// A byte as a count.
-pub fn wide(x: u8) -> usize
-    ensures { λ r. ⌜ (r ≡ x) × (r < 256) ⌝ }
-{
-    x as usize
 }
 
 // One variable more.

@@ -4,6 +4,7 @@ ghost use Prim.Native.Nat.{_<_};
 ghost use Rattle.wording.specs.Laid.{Laid};
 ghost use Rattle.wording.specs.Promises.{HeadCount, GoalCount};
 ghost use Rattle.wording.specs.Steps.{SomeTerm, SomeTerms, WordAt, PaddedAt};
+use numbers::wide;
 
 // The tags of a variable and of a constant, in units of 2^32.
 pub const VARIABLE: u64 = 4294967296;
@@ -12,13 +13,6 @@ pub const CONSTANT: u64 = 8589934592;
 
 // The word where a subgoal's terms have ended.
 pub const NONE: u64 = 1;
-
-// A byte as a count.
-pub fn wide(x: u8) -> usize
-    ensures { λ r. ⌜ (r ≡ x) × (r < 256) ⌝ }
-{
-    x as usize
-}
 
 // "one byte head length"
 pub fn head_count(body: &[u8]) -> usize

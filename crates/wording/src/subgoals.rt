@@ -9,7 +9,7 @@ ghost use Rattle.wording.specs.Steps.{SomeGoal, NineAt};
 use super::places::goal_count;
 use super::places::head_count;
 use super::places::padded_at;
-use super::places::wide;
+use numbers::wide;
 
 // The arity of the relation whose number stands at `at`.
 fn arity_at(body: &[u8], at: usize, relations: &[u8]) -> usize

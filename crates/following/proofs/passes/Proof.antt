@@ -48,7 +48,7 @@ returns c =
     let l = c .before .before .before .before .before .loop in
     let good = c .before .before .before .before .before .before .before .before .before .before .before .good in
     let w = c .before .before .before .before .before .before .before .before .before .before .before .pre in
-    going-never _ _ _ _ _ (l .inv .0) (search (needs, good .1 .1 .1 .1 .1 .1)) (w .few) (omega (arith, loop-test .taken)) _ _ (rw (wide .ensures) at (step .ensures)) (not-true _ (if1 .taken))
+    going-never _ _ _ _ _ (l .inv .0) (search (needs, good .1 .1 .1 .1 .1 .1)) (w .few) (omega (arith, loop-test .taken)) _ _ (rw (wide .ensures .0) at (step .ensures)) (not-true _ (if1 .taken))
 
 add-i : tie.Need-add-i Inv-loop μ-loop
 add-i c =
@@ -65,7 +65,7 @@ loop-again c =
     let l = c .before .before .before .before .before .loop in
     let good = c .before .before .before .before .before .before .before .before .before .before .before .good in
     let w = c .before .before .before .before .before .before .before .before .before .before .before .pre in
-    let s = rw (wide .ensures) at (step .ensures) in let y = not-false _ (if1 .left) in (going-more _ _ _ _ _ (l .inv .0) (search (needs, good .1 .1 .1 .1 .1 .1)) (w .few) (omega (arith, loop-test .taken)) _ _ s y, s .passed y .long)
+    let s = rw (wide .ensures .0) at (step .ensures) in let y = not-false _ (if1 .left) in (going-more _ _ _ _ _ (l .inv .0) (search (needs, good .1 .1 .1 .1 .1 .1)) (w .few) (omega (arith, loop-test .taken)) _ _ s y, s .passed y .long)
 
 returns-2 : tie.Need-returns-2 Inv-loop μ-loop
 returns-2 c =

@@ -10,7 +10,7 @@ use Rattle.subgoals.proofs.read_subgoals.Reads as read-subgoals-reads
 use Rattle.subgoals.proofs.read_terms.Reads as read-terms-reads
 use Rattle.rules.proofs.stopped.Reads as stopped-reads
 use Rattle.rules.proofs.unnoted.Reads as unnoted-reads
-use Rattle.subgoals.proofs.wide.Reads as wide-reads
+use Rattle.numbers.proofs.wide.Reads as wide-reads
 
 returns : tie.Need-returns
 returns c = let a = c .before .before .before .args in no-bytes (a .relations .now) (a .most) (a .body .now) (c .if1 .taken)

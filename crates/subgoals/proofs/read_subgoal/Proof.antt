@@ -7,7 +7,7 @@ use Rattle.subgoals.proofs.read_subgoal.Tie as tie
 use Rattle.subgoals.proofs.read_subgoal.Reads as reads
 use Rattle.subgoals.proofs.read_subgoal.Lts as lts
 use Rattle.subgoals.proofs.read_terms.Reads as read-terms-reads
-use Rattle.subgoals.proofs.wide.Reads as wide-reads
+use Rattle.numbers.proofs.wide.Reads as wide-reads
 
 returns : tie.Need-returns
 returns c = let a = c .before .before .before .args in goal-end (a .m) (a .relations .now) (a .body .now) (a .at) (c .if1 .taken)
