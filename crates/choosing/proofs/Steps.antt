@@ -23,12 +23,12 @@ use Rattle.frame.specs.Frame.{going-start, going-within, going-taken, going-pas
 use Rattle.frame.specs.Fewest.{at-least-start, at-least-next, at-least-none}
 use Rattle.placing.specs.Task.{Task}
 use Rattle.placing.specs.Mapped.{Feasible, Enough}
-use Rattle.choosing.specs.Posed.{PosedBy, Posed}
+use Rattle.pruning.specs.Posed.{PosedBy, Posed}
+use Rattle.pruning.proofs.Tests.{feasible-can}
 use Rattle.choosing.specs.Chosen.{Found, NotFound, ChosenBy, Chooses}
 use Rattle.choosing.specs.Passing.{nothing, found, starting, taking, passing, Fewest, Tried, UnderwayBy, Underway}
 use Rattle.choosing.specs.declared.Chosen.{Chosen}
 use Rattle.choosing.specs.declared.Pass.{Pass}
-use Rattle.choosing.proofs.Tests.{feasible-can}
 
 -- before the first row: of n rows none is used, all may be
 module _ {s : Summaries} {q : Rule ℕ} {rows : Rows} {t : Task} {b : List ℕ} {n : ℕ} (p : PosedBy s q rows t b n) where

@@ -15,7 +15,7 @@ use Rattle.words.specs.Rising.{Rising}
 use Rattle.frame.specs.Numbered.{Rows, nothing, rowAt, rowsAt}
 use Rattle.frame.specs.Lists.{rising-getD}
 use Rattle.placing.specs.Task.{Task}
-use Rattle.choosing.specs.Posed.{Posed}
+use Rattle.pruning.specs.Posed.{Posed}
 use Rattle.choosing.specs.Chosen.{numbersOf, Found, NotFound, ChosenBy, Chooses}
 use Rattle.choosing.specs.declared.Chosen.{Chosen}
 

@@ -9,7 +9,7 @@ use Rattle.words.specs.Summaries.{Summaries}
 use Rattle.words.specs.Answer.{Rewrites, Answer}
 use Rattle.frame.specs.Numbered.{Rows, rowsAt}
 use Rattle.placing.specs.Task.{Task}
-use Rattle.choosing.specs.Posed.{PosedBy}
+use Rattle.pruning.specs.Posed.{PosedBy}
 use Rattle.choosing.specs.declared.Chosen.{Chosen}
 
 -- the rows chosen, by their numbers, counted from 0

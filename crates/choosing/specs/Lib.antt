@@ -1,4 +1,2 @@
-pub mod Posed
 pub mod Chosen
-pub mod Pruning
 pub mod Passing

@@ -12,7 +12,7 @@ use Rattle.frame.specs.Going.{Going}
 use Rattle.frame.specs.Marked.{Marked}
 use Rattle.placing.specs.Task.{Task}
 use Rattle.placing.specs.Mapped.{Feasible, Enough}
-use Rattle.choosing.specs.Posed.{PosedBy}
+use Rattle.pruning.specs.Posed.{PosedBy}
 use Rattle.choosing.specs.declared.Chosen.{Chosen}
 use Rattle.choosing.specs.declared.Pass.{Pass}
 

@@ -2,11 +2,9 @@
 ghost use mathlib.Core.Path.{_≡_};
 ghost use Prim.Native.Nat.{_+_, _<_, _≤_};
 ghost use Rattle.placing.specs.Task.{posed};
+ghost use Rattle.pruning.specs.Pruning.{PosedWith};
 ghost use Rattle.choosing.specs.Chosen.{Chooses};
-ghost use Rattle.choosing.specs.Pruning.{PosedWith};
 ghost use Rattle.choosing.specs.Passing.{nothing, found, starting, taking, passing, Fewest, Tried, Underway};
-
-pub mod prune; // rows that others dominate
 
 // How many rows are chosen, and their numbers, in order; or that no list of rows will do.
 pub struct Chosen {
@@ -106,12 +104,12 @@ fn fewest(
     ensures { λ r. ⌜ Fewest (posed (now (source .entry)) (now (widths .entry)) (now (lasts .entry)) (now (target .entry)) (now (own .entry))) b n r ⌝ }
 {
     let all = bits::below(n as u32);
-    if !prune::can(source, widths, lasts, target, own, b, dom, n, 0, all, 12) {
+    if !pruning::can(source, widths, lasts, target, own, b, dom, n, 0, all, 12) {
         return 13;
     }
     let mut k: usize = 0;
     while k < 12 {
-        if prune::can(source, widths, lasts, target, own, b, dom, n, 0, all, k) {
+        if pruning::can(source, widths, lasts, target, own, b, dom, n, 0, all, k) {
             return k;
         }
         k += 1;
@@ -141,7 +139,7 @@ fn one_row(
     let used = bits::add(p.used, row as u32);
     let may = bits::remove(p.may, row as u32);
     let left = p.left - 1;
-    if prune::can(
+    if pruning::can(
         source,
         widths,
         lasts,

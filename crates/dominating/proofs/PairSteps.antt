@@ -19,7 +19,7 @@ use Rattle.ties.proofs.AtWords.{relation-at}
 use Rattle.ties.proofs.InUse.{use-few, use-some}
 use Rattle.wording.proofs.WordLaws.{words-length}
 use Rattle.expanding.proofs.Spread.{widths-length}
-use Rattle.choosing.specs.Pruning.{UsesBy, Uses, TellsDominance}
+use Rattle.pruning.specs.Pruning.{UsesBy, Uses, TellsDominance}
 use Rattle.asking.proofs.Lent.{zeros-at}
 use Rattle.dominating.specs.Dominators.{SoundRows, Pair, SomePair, NoRelation, TellsPair}
 

@@ -14,8 +14,8 @@ use Rattle.ties.proofs.Granted.{book-bounds}
 use Rattle.asking.specs.Question.{QuestionSource, QuestionBound}
 use Rattle.asking.proofs.Lent.{goals-few, source-words, source-widths}
 use Rattle.expanding.specs.Given.{RowsOf}
-use Rattle.choosing.specs.Posed.{PosedBy}
-use Rattle.choosing.specs.Pruning.{Table, PosedWith}
+use Rattle.pruning.specs.Posed.{PosedBy}
+use Rattle.pruning.specs.Pruning.{Table, PosedWith}
 use Rattle.choosing.specs.Chosen.{Chooses}
 use Rattle.choosing.specs.declared.Chosen.{Chosen}
 use Rattle.posing.specs.Asked.{AskedOf, Asked, RowsChosen}

@@ -1,9 +1,9 @@
-// Rows that others dominate need not be tried: wherever such a row serves, the other does.
+// Whether rows can do, by the search over them less those that others dominate: wherever such a row serves, the other does. And whether a row dominates another.
 ghost use mathlib.Core.Path.{_≡_};
 ghost use Prim.Native.Nat.{_<_, _≤_};
 ghost use Rattle.placing.specs.Task.{posed};
 ghost use Rattle.placing.specs.Mapped.{Enough};
-ghost use Rattle.choosing.specs.Pruning.{Spared, Pruned, PosedWith, Uses, TellsDominance};
+ghost use Rattle.pruning.specs.Pruning.{Spared, Pruned, PosedWith, Uses, TellsDominance};
 
 // Without the row, if another that is used or may be dominates it; `over` has the rows that do.
 fn spared(used: u64, may: u64, over: u64, row: usize) -> u64

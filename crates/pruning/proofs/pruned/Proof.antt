@@ -1,9 +1,9 @@
 use native.Mathlib.Omega.{arith}
 use Prim.Native.Nat.{_≤_, _-_}
-use Rattle.choosing.specs.Pruning.{Pruned}
-use Rattle.choosing.proofs.Pruned.{pruned-start, pruned-next}
-use Rattle.choosing.proofs.prune.pruned.Statement.{statement}
-use Rattle.choosing.proofs.prune.pruned.Tie as tie
+use Rattle.pruning.specs.Pruning.{Pruned}
+use Rattle.pruning.proofs.Dropped.{pruned-start, pruned-next}
+use Rattle.pruning.proofs.pruned.Statement.{statement}
+use Rattle.pruning.proofs.pruned.Tie as tie
 
 abbrev Inv-loop : tie.InvT-loop
 Inv-loop dom n used may kept₀ row₀ kept row = Pruned dom n used may kept

@@ -13,7 +13,7 @@ use Rattle.placing.specs.Mapped.{Mapped, FirstPlaces}
 use Rattle.placing.specs.declared.Places.{Places}
 use Rattle.ties.specs.Coded.{Bound}
 use Rattle.ties.proofs.Dominance.{use-sized, dominates-is}
-use Rattle.choosing.specs.Pruning.{UsesBy, Uses, TellsDominance}
+use Rattle.pruning.specs.Pruning.{UsesBy, Uses, TellsDominance}
 
 unbound : (n x : ℕ) → _≡_ {A = ℕ} (getD (replicate n 0) x 0) 0
 unbound zero x = refl

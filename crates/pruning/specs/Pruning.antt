@@ -15,7 +15,7 @@ use Rattle.frame.specs.Dominates.{Dominates}
 use Rattle.placing.specs.Task.{Task}
 use Rattle.ties.specs.Bounds.{Bounds, RowsWithin}
 use Rattle.ties.specs.Tasks.{useTask}
-use Rattle.choosing.specs.Posed.{Posed}
+use Rattle.pruning.specs.Posed.{Posed}
 
 -- Of n rows: what stands in the table for a row is a set of rows that dominate it. Not all of them need be there.
 pub record Table (s : Summaries) (rows : Rows) (n : ℕ) (dom : List ℕ) : Type 0 where

@@ -18,8 +18,8 @@ use Rattle.frame.specs.Can.{CanBy}
 use Rattle.frame.specs.Dominance.{drop-dominated}
 use Rattle.placing.specs.Task.{Task}
 use Rattle.placing.specs.Mapped.{Feasible, Enough}
-use Rattle.choosing.specs.Pruning.{Table, PosedWith, Spared, Pruned}
-use Rattle.choosing.proofs.Tests.{feasible-can}
+use Rattle.pruning.specs.Pruning.{Table, PosedWith, Spared, Pruned}
+use Rattle.pruning.proofs.Tests.{feasible-can}
 
 -- what is spared
 module _ {used may over row others there : ℕ} {a : Bool} (os : others ≡ without over row) (ts : there ≡ bitOr used may) (m : Meets others there a) where

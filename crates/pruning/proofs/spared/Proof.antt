@@ -1,7 +1,7 @@
-use Rattle.choosing.proofs.Pruned.{spared-dropped, spared-kept}
+use Rattle.pruning.proofs.Dropped.{spared-dropped, spared-kept}
 use borrow.Author.Needs.{needs}
-use Rattle.choosing.proofs.prune.spared.Statement.{statement}
-use Rattle.choosing.proofs.prune.spared.Tie as tie
+use Rattle.pruning.proofs.spared.Statement.{statement}
+use Rattle.pruning.proofs.spared.Tie as tie
 
 returns : tie.Need-returns
 returns c = spared-dropped (c .before .before .before .before .remove .ensures) (c .before .before .before .join .ensures) (c .before .before .meets .ensures) (c .before .if1 .taken) (c .remove2 .ensures)

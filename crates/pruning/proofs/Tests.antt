@@ -12,7 +12,7 @@ use Rattle.frame.specs.Can.{CanBy}
 use Rattle.placing.specs.Task.{Task, Sized}
 use Rattle.placing.specs.Mapped.{Feasible}
 use Rattle.ties.proofs.Feasibility.{feasible-is, feasible-sized}
-use Rattle.choosing.specs.Posed.{PosedBy, Posed}
+use Rattle.pruning.specs.Posed.{PosedBy, Posed}
 
 module _ {s : Summaries} {q : Rule ℕ} {rows : Rows} {t : Task} {b : List ℕ} {n : ℕ} (p : PosedBy s q rows t b n) where
   pub posed-sized : Sized t

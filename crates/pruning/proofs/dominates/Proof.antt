@@ -1,6 +1,6 @@
-use Rattle.choosing.proofs.Uses.{uses-sized, tells}
-use Rattle.choosing.proofs.prune.dominates.Statement.{statement}
-use Rattle.choosing.proofs.prune.dominates.Tie as tie
+use Rattle.pruning.proofs.Uses.{uses-sized, tells}
+use Rattle.pruning.proofs.dominates.Statement.{statement}
+use Rattle.pruning.proofs.dominates.Tie as tie
 
 first-places-requires : tie.Need-first-places-requires
 first-places-requires c κs = uses-sized (c .before .before .before .before .before .pre)

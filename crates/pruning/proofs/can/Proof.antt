@@ -1,8 +1,8 @@
-use Rattle.choosing.proofs.Tests.{posed-few}
-use Rattle.choosing.proofs.Pruned.{pruned-enough}
+use Rattle.pruning.proofs.Tests.{posed-few}
+use Rattle.pruning.proofs.Dropped.{pruned-enough}
 use borrow.Author.Needs.{needs}
-use Rattle.choosing.proofs.prune.can.Statement.{statement}
-use Rattle.choosing.proofs.prune.can.Tie as tie
+use Rattle.pruning.proofs.can.Statement.{statement}
+use Rattle.pruning.proofs.can.Tie as tie
 
 enough-requires : tie.Need-enough-requires
 enough-requires c κs = posed-few (c .before .before .before .before .before .before .pre .task)
