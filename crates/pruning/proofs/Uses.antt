@@ -5,6 +5,7 @@ use mathlib.Core.Logic.{_↔_}
 use mathlib.Core.List.{List}
 use Prim.Native.Nat.{ℕ, zero, suc}
 use lib.ListN.{getD, replicate}
+use Rattle.bits.proofs.Laws.{exactly-once}
 use Rattle.words.specs.Summaries.{Summaries}
 use Rattle.frame.specs.Numbered.{Rows}
 use Rattle.frame.specs.Dominates.{Dominates}
@@ -41,3 +42,7 @@ tells {t} o f = record { exactly = λ s rows d r p. (λ e. let l = f .found e in
     go : (a : Bool) → o .ok ≡ a → ((l : List ℕ) × Mapped t (replicate 64 0) l) → o .ok ≡ true
     go true e m = e
     go false e m = absurd (f .none e .1 (m .0) (m .1))
+
+-- two answers that meet the promise are the same
+pub dominates-once : {t : Task} → Uses t → (a b : Bool) → TellsDominance t a → TellsDominance t b → a ≡ b
+dominates-once u a b f g = exactly-once a b (f .exactly _ _ _ _ (u .by)) (g .exactly _ _ _ _ (u .by))
