@@ -1,6 +1,6 @@
 // Whether a summary of a sound book is admitted.
 ghost use Rattle.admitting.specs.Admission.{HasSummary, SaysIn};
-use contents::fields::stamp_at;
+use entries::fields::stamp_at;
 use refresh::is_admitted;
 
 // Whether summary i, counted from 1, is admitted.

@@ -9,9 +9,9 @@ ghost use Rattle.books.specs.Says.{ReadingSays, ToldSays, summaryAt, tol
 pub mod parts; // entries of a book that loads
 
 use contents::Loaded;
-use contents::fields::entries_of;
-use contents::fields::length_at;
-use contents::fields::offset_at;
+use entries::fields::entries_of;
+use entries::fields::length_at;
+use entries::fields::offset_at;
 use rules::Fault;
 use rules::Verdict;
 

@@ -3,8 +3,8 @@ ghost use mathlib.Core.Path.{_≡_};
 ghost use Prim.Native.Nat.{_<_};
 ghost use Rattle.layout.specs.Contents.{entriesIn, partAt};
 ghost use Rattle.layout.specs.Refusals.{Loads};
-use contents::fields::length_at;
-use contents::fields::offset_at;
+use entries::fields::length_at;
+use entries::fields::offset_at;
 
 // Entry i's own part. (`contents::entry` is the same for books that nobody has looked at.)
 pub fn part_of(book: &[u8], i: usize) -> &[u8]

@@ -1,6 +1,6 @@
 -- Any two results that meet a promise of this crate are equal. Of a part, where it lies and what it holds are settled: the rest of a reference's value is a name
--- that only proofs see. For the functions whose promise names a number it is `number-unique` of the crate numbers.
-use mathlib.Core.Path.{_≡_, refl, ap, sym, _∙_}
+-- that only proofs see.
+use mathlib.Core.Path.{_≡_, ap, sym, _∙_}
 use mathlib.Core.List.{List, List-discrete}
 use Prim.Native.Nat.{ℕ, _<_}
 use native.Mathlib.Decide.{ℕ-discrete}
@@ -8,11 +8,9 @@ use Rattle.layout.specs.Contents.{entriesIn}
 use Rattle.layout.specs.Refusals.{Loads}
 use Rattle.layout.proofs.FirstFaults.{loads-unrefused, first-fault-unique}
 use Rattle.contents.specs.EntryPart.{Lent, LiesIn, EntryPart}
-use Rattle.contents.specs.Loading.{LoadSays, StepSays}
+use Rattle.contents.specs.Loading.{LoadSays}
 use Rattle.contents.specs.declared.Loaded.{Loaded}
 use Rattle.contents.specs.declared.Loaded.the-variants.{Good, Refused}
-use Rattle.contents.specs.declared.Step.{Step}
-use Rattle.contents.specs.declared.Step.the-variants.{Passed, Fault}
 
 -- `load`
 pub load-unique : (book : List ℕ) (r s : Loaded) → LoadSays book r → LoadSays book s → r ≡ s
@@ -20,13 +18,6 @@ load-unique book (Good n) (Good m) p q = ap Good (p .1 ∙ sym (q .1))
 load-unique book (Good n) (Refused k) p q = absurd (loads-unrefused book k (p .0) q)
 load-unique book (Refused k) (Good n) p q = absurd (loads-unrefused book k (q .0) p)
 load-unique book (Refused k) (Refused l) p q = ap Refused (first-fault-unique book k l p q)
-
--- The steps of it: each fault is that what the step looks for does not hold.
-pub step-unique : (right : Type 0) (r s : Step) → StepSays right (right → ⊥) r → StepSays right (right → ⊥) s → r ≡ s
-step-unique right Passed Passed p q = refl
-step-unique right Passed Fault p q = absurd (q p)
-step-unique right Fault Passed p q = absurd (p q)
-step-unique right Fault Fault p q = refl
 
 -- Two parts that lie in the book at one place and hold the same bytes.
 pub record Same (p q : Lent) : Type 0 where

@@ -6,15 +6,8 @@ use Rattle.layout.specs.Contents.{count}
 use Rattle.layout.specs.Refusals.{Loads, Refusal}
 use Rattle.contents.specs.declared.Loaded.{Loaded}
 use Rattle.contents.specs.declared.Loaded.the-variants.{Good, Refused}
-use Rattle.contents.specs.declared.Step.{Step}
-use Rattle.contents.specs.declared.Step.the-variants.{Passed, Fault}
 
 -- `Good n`: the book passes 2 to 5, and n is its count of summaries. `Refused k`: the refusal table's number k, at place 0.
 abbrev pub LoadSays : List ℕ → Loaded → Type 0
 LoadSays book (Good n) = Loads book × (n ≡ count book)
 LoadSays book (Refused k) = Refusal book k 0
-
--- One step of it: what it looked for holds, or the fault does.
-abbrev pub StepSays : Type 0 → Type 0 → Step → Type 0
-StepSays right fault Passed = right
-StepSays right fault Fault = fault

@@ -1,16 +1,12 @@
 // The contents of a book: loaded, or refused with 2 to 5; and each entry's own part of the book.
 ghost use Rattle.contents.specs.Loading.{LoadSays};
 ghost use Rattle.contents.specs.EntryPart.{EntryPart};
-
-pub mod fields; // count, offset, length and stamp, as numbers
-mod gaps; // the rule of no gaps
-mod relations; // entry 0
-
-use fields::count_of;
-use fields::entries_of;
-use fields::length_at;
-use fields::offset_at;
-use gaps::no_gaps;
+use entries::Step;
+use entries::fields::count_of;
+use entries::fields::entries_of;
+use entries::fields::length_at;
+use entries::fields::offset_at;
+use entries::gaps::no_gaps;
 use relations::right_relations;
 
 const LONGEST: usize = 25040;
@@ -21,12 +17,6 @@ const MOST_SUMMARIES: usize = 64;
 pub enum Loaded {
     Good(usize),
     Refused(u8),
-}
-
-// A step that looks for one fault.
-enum Step {
-    Passed,
-    Fault,
 }
 
 pub fn load(book: &[u8]) -> Loaded

@@ -5,7 +5,7 @@ ghost use Rattle.listing.specs.Turns.{OntoQuestion, Turn, TurnSays};
 ghost use lib.ListN.{length};
 use admitting::is_in;
 use books::parts::part_of;
-use contents::fields::count_of;
+use entries::fields::count_of;
 use rows::Tally;
 use rows::rows_of;
 use tasks::put_source;

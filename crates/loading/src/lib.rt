@@ -5,10 +5,10 @@ ghost use lib.ListN.{length};
 ghost use Rattle.loading.specs.Loading.{JudgeSays, LoadingSays};
 ghost use Rattle.loading.specs.Records.{recordAt, recordsOf, Few};
 use contents::Loaded;
-use contents::fields::entries_of;
-use contents::fields::length_at;
-use contents::fields::offset_at;
-use contents::fields::stamp_at;
+use entries::fields::entries_of;
+use entries::fields::length_at;
+use entries::fields::offset_at;
+use entries::fields::stamp_at;
 
 const LEAST_TABLE: usize = 66;
 

@@ -4,7 +4,7 @@ ghost use Rattle.asking.specs.Question.{SomeSound};
 ghost use Rattle.layout.specs.Contents.{count};
 ghost use Rattle.proposed.specs.Lengths.{HeadAt, HeadsTo};
 use books::parts::part_of;
-use contents::fields::count_of;
+use entries::fields::count_of;
 use wording::places::head_count;
 
 // The head of summary i, counted from 1: "entry i + 1 summary i".

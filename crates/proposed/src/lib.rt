@@ -9,7 +9,7 @@ mod tests; // layout, head, admission
 
 use books::parts::part_of;
 use builders::bodies::term_words;
-use contents::fields::count_of;
+use entries::fields::count_of;
 use lengths::head_lengths;
 use tests::all_admitted;
 use tests::is_laid_out;

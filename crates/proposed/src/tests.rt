@@ -6,7 +6,7 @@ ghost use Rattle.wording.specs.Laid.{Laid};
 ghost use Rattle.proposed.specs.Tests.{LaidOut, SameHeads, Admits, AdmitsAll};
 use admitting::is_in;
 use builders::heads::head_words;
-use contents::fields::count_of;
+use entries::fields::count_of;
 use rules::Verdict;
 use rules::judge;
 

@@ -16,8 +16,8 @@ use Rattle.books.proofs.judge_entry.Tie as tie
 use Rattle.books.proofs.judge_entry.Reads as reads
 use Rattle.books.proofs.judge_entry.Lts as lts
 use Rattle.books.proofs.most_at.Reads as most-at-reads
-use Rattle.contents.proofs.fields.length_at.Reads as length-at-reads
-use Rattle.contents.proofs.fields.offset_at.Reads as offset-at-reads
+use Rattle.entries.proofs.fields.length_at.Reads as length-at-reads
+use Rattle.entries.proofs.fields.offset_at.Reads as offset-at-reads
 use Rattle.rules.proofs.judge.Reads as judge-reads
 
 -- src/lib.rt:60:9

@@ -13,7 +13,7 @@ use Rattle.books.proofs.read_rules.Reads as reads
 use Rattle.books.proofs.read_rules.Lts as lts
 use Rattle.books.proofs.judge_entry.Reads as judge-entry-reads
 use Rattle.books.proofs.number_of.Reads as number-of-reads
-use Rattle.contents.proofs.fields.entries_of.Reads as entries-of-reads
+use Rattle.entries.proofs.fields.entries_of.Reads as entries-of-reads
 
 -- the entries before i are sound
 abbrev Inv-loop : tie.InvT-loop

@@ -6,8 +6,8 @@ use Rattle.books.proofs.parts.part_of.Statement.{statement}
 use Rattle.books.proofs.parts.part_of.Tie as tie
 use Rattle.books.proofs.parts.part_of.Reads as reads
 use Rattle.books.proofs.parts.part_of.Lts as lts
-use Rattle.contents.proofs.fields.length_at.Reads as length-at-reads
-use Rattle.contents.proofs.fields.offset_at.Reads as offset-at-reads
+use Rattle.entries.proofs.fields.length_at.Reads as length-at-reads
+use Rattle.entries.proofs.fields.offset_at.Reads as offset-at-reads
 
 offset-at-requires : tie.Need-offset-at-requires
 offset-at-requires c κs = let s = c .before in loads-room (s .args .book .now) (s .args .i) (s .pre .0) (s .pre .1)
