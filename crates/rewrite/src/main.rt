@@ -7,30 +7,30 @@
 //     rewrite areas                    many books: what is left in the two lent areas (areas.rt)
 //     rewrite repeat                   many books, each several times, for timing (repeat.rt)
 mod areas; // what was left in the two lent areas
-mod bytes; // bytes and numbers out of a slice, whatever its length
-mod leads; // the need, and each summary's lead
-mod print; // the listing
+mod outcome; // the listing or the refusal; answer and witness as files
 mod repeat; // the same book several times
-mod store; // answer and witness as files
+mod told; // what the rewriter answered, as numbers
 
 use check::same;
 use libc::STDIN_FILENO;
-use print::print_outcome;
+use outcome::print_outcome;
 
 // One byte more than the longest sound book: what a book has past that changes nothing, it is
 // refused with 2.
 const ROOM: usize = 25041;
 
-fn one_book() {
+fn one_book(store: bool) {
     let mut book = [0u8; ROOM];
     let n = io::read_full(STDIN_FILENO, &mut book);
-    print_outcome(&book[..n]);
+    print_outcome(&book[..n], store);
 }
 
-fn stored_book() {
-    let mut book = [0u8; ROOM];
-    let n = io::read_full(STDIN_FILENO, &mut book);
-    store::print_and_store(&book[..n]);
+fn print_one(book: &[u8], areas: bool) {
+    if areas {
+        areas::print_areas(book);
+    } else {
+        print_outcome(book, false);
+    }
 }
 
 // The next of many books; answers whether there was one.
@@ -41,11 +41,7 @@ fn next_book(areas: bool) -> bool {
     }
     let mut book = [0u8; ROOM];
     let n = input::fill(&mut book, size);
-    if areas {
-        areas::print_areas(&book[..n]);
-    } else {
-        print_outcome(&book[..n]);
-    }
+    print_one(&book[..n], areas);
     input::pass(size - n as u64);
     true
 }
@@ -80,18 +76,21 @@ fn repeated_books() {
     }
 }
 
+// What the first word asks for.
+fn run(word: &[u8]) {
+    if same(word, b"many") {
+        many_books(false);
+    } else if same(word, b"areas") {
+        many_books(true);
+    } else if same(word, b"repeat") {
+        repeated_books();
+    } else {
+        one_book(same(word, b"store"));
+    }
+}
+
 fn main() {
     let mut word = [0u8; 8];
     let n = os::arg(1, &mut word);
-    if same(&word[..n], b"many") {
-        many_books(false);
-    } else if same(&word[..n], b"areas") {
-        many_books(true);
-    } else if same(&word[..n], b"repeat") {
-        repeated_books();
-    } else if same(&word[..n], b"store") {
-        stored_book();
-    } else {
-        one_book();
-    }
+    run(&word[..n]);
 }
