@@ -25,53 +25,48 @@ fn one_book(store: bool) {
     print_outcome(&book[..n], store);
 }
 
-fn print_one(book: &[u8], areas: bool) {
-    if areas {
-        areas::print_areas(book);
-    } else {
-        print_outcome(book, false);
+// What is printed of each of many books.
+enum Form {
+    Listing,
+    Areas,
+    Repeated,
+}
+
+// How often the next book is rewritten: where that is asked for, it stands before the book.
+fn times_of(form: Form) -> u64 {
+    match form {
+        Form::Repeated => input::size(),
+        _ => 1,
+    }
+}
+
+fn print_one(form: Form, times: u64, book: &[u8]) {
+    match form {
+        Form::Listing => print_outcome(book, false),
+        Form::Areas => areas::print_areas(book),
+        Form::Repeated => repeat::print_last(book, times),
     }
 }
 
 // The next of many books; answers whether there was one.
-fn next_book(areas: bool) -> bool {
+fn next_book(form: Form) -> bool {
+    let times = times_of(form);
     let size = input::size();
     if size == input::NO_MORE {
         return false;
     }
     let mut book = [0u8; ROOM];
     let n = input::fill(&mut book, size);
-    print_one(&book[..n], areas);
+    print_one(form, times, &book[..n]);
     input::pass(size - n as u64);
     true
 }
 
 // A proved loop has to end, and nothing says that the input does: so it counts its turns down, from
 // a number that no input uses up.
-fn many_books(areas: bool) {
+fn many_books(form: Form) {
     let mut turns = u64::MAX;
-    while turns > 0 && next_book(areas) {
-        turns -= 1;
-    }
-}
-
-// The next book and how often it is rewritten; answers whether there was one.
-fn next_repeated() -> bool {
-    let times = input::size();
-    let size = input::size();
-    if size == input::NO_MORE {
-        return false;
-    }
-    let mut book = [0u8; ROOM];
-    let n = input::fill(&mut book, size);
-    repeat::print_last(&book[..n], times);
-    input::pass(size - n as u64);
-    true
-}
-
-fn repeated_books() {
-    let mut turns = u64::MAX;
-    while turns > 0 && next_repeated() {
+    while turns > 0 && next_book(form) {
         turns -= 1;
     }
 }
@@ -79,11 +74,11 @@ fn repeated_books() {
 // What the first word asks for.
 fn run(word: &[u8]) {
     if same(word, b"many") {
-        many_books(false);
+        many_books(Form::Listing);
     } else if same(word, b"areas") {
-        many_books(true);
+        many_books(Form::Areas);
     } else if same(word, b"repeat") {
-        repeated_books();
+        many_books(Form::Repeated);
     } else {
         one_book(same(word, b"store"));
     }
