@@ -2,9 +2,10 @@
 // of 534 and 120 (just enough), of 533 and 120, of 534 and 119, of 533 and 119 (too short); of each
 // call a line of four numbers (the refusal's number and place, 0 and 0 where there is none; the lengths
 // of answer and witness, 0 and 0 on a refusal), and then all bytes of both areas as they are.
+ghost use Prim.Native.Nat.{_≤_};
+use crate::told::Told;
+use crate::told::tell;
 use libc::STDOUT_FILENO;
-use rewriter::Outcome;
-use rewriter::rewrite;
 
 // What an area holds before: bytes that go through all values, from `first` on.
 fn pattern(area: &mut [u8], first: u8) {
@@ -17,39 +18,36 @@ fn pattern(area: &mut [u8], first: u8) {
     }
 }
 
-fn print_number(n: u64, after: &[u8]) {
-    io::print_decimal(STDOUT_FILENO, n);
-    io::write_all(STDOUT_FILENO, after);
-}
-
-fn print_numbers(number: u8, place: usize, answer: usize, witness: usize) {
-    print_number(number as u64, b" ");
-    print_number(place as u64, b" ");
-    print_number(answer as u64, b" ");
-    print_number(witness as u64, b"\n");
+fn print_told(told: Told) {
+    showing::print_four(
+        told.number as u64,
+        told.place as u64,
+        told.answer as u64,
+        told.witness as u64,
+    );
 }
 
 fn print_left(book: &[u8], answer: &mut [u8], witness: &mut [u8]) {
-    pattern(answer, 3);
-    pattern(witness, 100);
-    match rewrite(book, answer, witness) {
-        Outcome::Refused(number, place) => print_numbers(number, place, 0, 0),
-        Outcome::Done(n, m) => print_numbers(0, 0, n, m),
-    }
+    print_told(tell(book, answer, witness));
     io::write_all(STDOUT_FILENO, answer);
     io::write_all(STDOUT_FILENO, witness);
 }
 
-pub(crate) fn print_areas(book: &[u8]) {
+// One call, with areas of n and m bytes.
+fn print_with(book: &[u8], n: usize, m: usize)
+    requires { ⌜ (n ≤ 600) × (m ≤ 150) ⌝ }
+{
     let mut answer = [0u8; 600];
     let mut witness = [0u8; 150];
-    print_left(book, &mut answer, &mut witness);
-    let mut answer = [0u8; 534];
-    let mut witness = [0u8; 120];
-    print_left(book, &mut answer, &mut witness);
-    let mut short_answer = [0u8; 533];
-    let mut short_witness = [0u8; 119];
-    print_left(book, &mut short_answer, &mut witness);
-    print_left(book, &mut answer, &mut short_witness);
-    print_left(book, &mut short_answer, &mut short_witness);
+    pattern(&mut answer, 3);
+    pattern(&mut witness, 100);
+    print_left(book, &mut answer[..n], &mut witness[..m]);
+}
+
+pub(crate) fn print_areas(book: &[u8]) {
+    print_with(book, 600, 150);
+    print_with(book, 534, 120);
+    print_with(book, 533, 120);
+    print_with(book, 534, 119);
+    print_with(book, 533, 119);
 }

@@ -7,91 +7,85 @@
 //     rewrite areas                    many books: what is left in the two lent areas (areas.rt)
 //     rewrite repeat                   many books, each several times, for timing (repeat.rt)
 mod areas; // what was left in the two lent areas
-mod bytes; // bytes and numbers out of a slice, whatever its length
-mod leads; // the need, and each summary's lead
-mod print; // the listing
+mod outcome; // the listing or the refusal; answer and witness as files
 mod repeat; // the same book several times
-mod store; // answer and witness as files
+mod told; // what the rewriter answered, as numbers
 
 use check::same;
 use libc::STDIN_FILENO;
-use print::print_outcome;
+use outcome::print_outcome;
 
 // One byte more than the longest sound book: what a book has past that changes nothing, it is
 // refused with 2.
 const ROOM: usize = 25041;
 
-fn one_book() {
+fn one_book(store: bool) {
     let mut book = [0u8; ROOM];
     let n = io::read_full(STDIN_FILENO, &mut book);
-    print_outcome(&book[..n]);
+    print_outcome(&book[..n], store);
 }
 
-fn stored_book() {
-    let mut book = [0u8; ROOM];
-    let n = io::read_full(STDIN_FILENO, &mut book);
-    store::print_and_store(&book[..n]);
+// What is printed of each of many books.
+enum Form {
+    Listing,
+    Areas,
+    Repeated,
+}
+
+// How often the next book is rewritten: where that is asked for, it stands before the book.
+fn times_of(form: Form) -> u64 {
+    match form {
+        Form::Repeated => input::size(),
+        _ => 1,
+    }
+}
+
+fn print_one(form: Form, times: u64, book: &[u8]) {
+    match form {
+        Form::Listing => print_outcome(book, false),
+        Form::Areas => areas::print_areas(book),
+        Form::Repeated => repeat::print_last(book, times),
+    }
 }
 
 // The next of many books; answers whether there was one.
-fn next_book(areas: bool) -> bool {
+fn next_book(form: Form) -> bool {
+    let times = times_of(form);
     let size = input::size();
     if size == input::NO_MORE {
         return false;
     }
     let mut book = [0u8; ROOM];
     let n = input::fill(&mut book, size);
-    if areas {
-        areas::print_areas(&book[..n]);
-    } else {
-        print_outcome(&book[..n]);
-    }
+    print_one(form, times, &book[..n]);
     input::pass(size - n as u64);
     true
 }
 
 // A proved loop has to end, and nothing says that the input does: so it counts its turns down, from
 // a number that no input uses up.
-fn many_books(areas: bool) {
+fn many_books(form: Form) {
     let mut turns = u64::MAX;
-    while turns > 0 && next_book(areas) {
+    while turns > 0 && next_book(form) {
         turns -= 1;
     }
 }
 
-// The next book and how often it is rewritten; answers whether there was one.
-fn next_repeated() -> bool {
-    let times = input::size();
-    let size = input::size();
-    if size == input::NO_MORE {
-        return false;
-    }
-    let mut book = [0u8; ROOM];
-    let n = input::fill(&mut book, size);
-    repeat::print_last(&book[..n], times);
-    input::pass(size - n as u64);
-    true
-}
-
-fn repeated_books() {
-    let mut turns = u64::MAX;
-    while turns > 0 && next_repeated() {
-        turns -= 1;
+// What the first word asks for.
+fn run(word: &[u8]) {
+    if same(word, b"many") {
+        many_books(Form::Listing);
+    } else if same(word, b"areas") {
+        many_books(Form::Areas);
+    } else if same(word, b"repeat") {
+        many_books(Form::Repeated);
+    } else {
+        one_book(same(word, b"store"));
     }
 }
 
 fn main() {
     let mut word = [0u8; 8];
     let n = os::arg(1, &mut word);
-    if same(&word[..n], b"many") {
-        many_books(false);
-    } else if same(&word[..n], b"areas") {
-        many_books(true);
-    } else if same(&word[..n], b"repeat") {
-        repeated_books();
-    } else if same(&word[..n], b"store") {
-        stored_book();
-    } else {
-        one_book();
-    }
+    run(&word[..n]);
 }

@@ -22,13 +22,7 @@ fn print_reading(reading: Reading) {
         Reading::Sound => {
             io::write_all(STDOUT_FILENO, b"sound\n");
         }
-        Reading::Refused(number, place) => {
-            io::write_all(STDOUT_FILENO, b"refused ");
-            io::print_decimal(STDOUT_FILENO, number as u64);
-            io::write_all(STDOUT_FILENO, b" at ");
-            io::print_decimal(STDOUT_FILENO, place as u64);
-            io::write_all(STDOUT_FILENO, b"\n");
-        }
+        Reading::Refused(number, place) => showing::print_refusal(number, place),
     }
 }
 

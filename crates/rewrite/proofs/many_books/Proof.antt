@@ -4,10 +4,10 @@ use Rattle.rewrite.proofs.many_books.Statement.{statement}
 use Rattle.rewrite.proofs.many_books.Tie as tie
 
 abbrev Inv-loop : tie.InvT-loop
-Inv-loop areas turns₀ turns = Unit {0}
+Inv-loop form turns₀ turns = Unit {0}
 
 abbrev μ-loop : tie.MeasureT-loop
-μ-loop areas turns₀ turns = turns
+μ-loop form turns₀ turns = turns
 
 pub many-books-spec : {M : Type 1} → statement M
 many-books-spec =

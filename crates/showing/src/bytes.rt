@@ -1,6 +1,5 @@
 // Bytes and numbers out of a slice. Past its end everything is 0: what a program prints is read from
 // books and areas whose lengths it has not proved anything of.
-ghost use mathlib.Core.Path.{_≡_};
 ghost use Prim.Native.Nat.{_≤_};
 
 // A byte as a wider number, with its bound.
@@ -31,12 +30,4 @@ pub(crate) fn number_at(bytes: &[u8], at: usize) -> u32
     let low = wide(byte_at(bytes, at)) + 256 * wide(byte_at(bytes, at + 1));
     let high = wide(byte_at(bytes, at + 2)) + 256 * wide(byte_at(bytes, at + 3));
     (low + 65536 * high) as u32
-}
-
-// The first n bytes, or as many as there are.
-pub(crate) fn front(bytes: &[u8], n: usize) -> &[u8] {
-    if bytes.len() < n {
-        return bytes;
-    }
-    &bytes[..n]
 }

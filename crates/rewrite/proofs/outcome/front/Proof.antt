@@ -1,10 +1,10 @@
--- `rewrite::bytes::front` is safe: as many bytes as there are lie within.
+-- `rewrite::outcome::front` is safe: as many bytes as there are lie within.
 use mathlib.Core.Path.{sym}
 use lib.Seq.{length-take-le}
 use native.Mathlib.Omega.{arith}
 use borrow.Author.Needs.{needs}
-use Rattle.rewrite.proofs.bytes.front.Statement.{statement}
-use Rattle.rewrite.proofs.bytes.front.Tie as tie
+use Rattle.rewrite.proofs.outcome.front.Statement.{statement}
+use Rattle.rewrite.proofs.outcome.front.Tie as tie
 
 pub front-spec : {M : Type 1} → statement M
 front-spec =

@@ -1,9 +1,10 @@
 // The first lines of a listing: the need, and each summary's lead.
 ghost use Prim.Native.Nat.{_≤_};
-use crate::bytes::byte_at;
 use crate::bytes::count_at;
 use crate::bytes::number_at;
-use libc::STDOUT_FILENO;
+use crate::text::end_line;
+use crate::text::print_after;
+use crate::text::print_text;
 use refresh::Lead;
 use refresh::lead_of;
 use refresh::size_of;
@@ -17,14 +18,13 @@ fn stamp_of(book: &[u8], entry: usize) -> u32
 
 fn print_lead(lead: Lead) {
     match lead {
-        Lead::Tie => {
-            io::write_all(STDOUT_FILENO, b"tie");
-        }
+        Lead::Tie => print_text(b" lead tie"),
         Lead::Ahead(by) => {
             if by < 0 {
-                io::write_all(STDOUT_FILENO, b"-");
+                print_after(b" lead -", size_of(by));
+            } else {
+                print_after(b" lead ", size_of(by));
             }
-            io::print_decimal(STDOUT_FILENO, size_of(by));
         }
     }
 }
@@ -33,18 +33,15 @@ fn print_lead(lead: Lead) {
 fn print_view(book: &[u8], summary: usize)
     requires { ⌜ summary ≤ 255 ⌝ }
 {
-    io::write_all(STDOUT_FILENO, b"view ");
-    io::print_decimal(STDOUT_FILENO, summary as u64);
-    io::write_all(STDOUT_FILENO, b" lead ");
+    print_after(b"view ", summary as u64);
     print_lead(lead_of(stamp_of(book, 1), stamp_of(book, summary + 1)));
-    io::write_all(STDOUT_FILENO, b"\n");
+    end_line();
 }
 
 // A sound book has at most 64 summaries: its count's first byte says how many.
 pub(crate) fn print_leads(book: &[u8]) {
-    io::write_all(STDOUT_FILENO, b"need ");
-    io::print_decimal(STDOUT_FILENO, stamp_of(book, 1) as u64);
-    io::write_all(STDOUT_FILENO, b"\n");
+    print_after(b"need ", stamp_of(book, 1) as u64);
+    end_line();
     let n = count_at(book, 0);
     let mut i: usize = 0;
     while i < n {
