@@ -12,8 +12,8 @@ use Rattle.frame.specs.Numbered.{Rows, rowAt}
 use Rattle.ties.proofs.Granted.{book-bounds}
 use Rattle.wording.proofs.Stores.{front-length}
 use Rattle.wording.proofs.WordLaws.{words-length}
+use Rattle.using.specs.Promises.{OneUse, OneWidths}
 use Rattle.expanding.specs.Given.{RowsOf, RowsGiven}
-use Rattle.expanding.specs.Promises.{OneUse, OneWidths}
 use Rattle.expanding.proofs.Spread.{widths-length}
 use Rattle.expanding.proofs.Growing.{rowFrom, row-of}
 use Rattle.dominating.specs.Dominators.{Against, SomeAgainst, TellsAgainst, Onto, DominatorsOf}

@@ -2,8 +2,8 @@
 ghost use Prim.Native.Nat.{_<_, _≤_};
 ghost use Rattle.expanding.specs.Given.{RowsGiven};
 ghost use Rattle.dominating.specs.Dominators.{NoRelation, SomePair, TellsPair, SomeAgainst, TellsAgainst, Onto, DominatorsOf};
-use expanding::one::kept_use;
 use pruning::dominates;
+use using::one::kept_use;
 
 // Whether one of the target's subgoals is of that relation.
 fn has_relation(target: &[u64], relation: u64) -> bool

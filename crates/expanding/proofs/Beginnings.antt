@@ -11,9 +11,10 @@ use Rattle.words.specs.Book.{Book, admittedOf}
 use Rattle.frame.specs.Numbered.{rowAt}
 use Rattle.wording.specs.Codes.{atFront}
 use Rattle.wording.proofs.Stores.{front-more}
+use Rattle.using.specs.Promises.{OneCount}
 use Rattle.expanding.specs.Given.{RowsOf}
 use Rattle.expanding.specs.Insides.{starts}
-use Rattle.expanding.specs.Promises.{OneCount, AllStarts}
+use Rattle.expanding.specs.Promises.{AllStarts}
 use Rattle.expanding.proofs.Growing.{rowFrom, row-of, uses-take, uses-many, Reached, Goals}
 
 module _ {A : Type 0} where

@@ -16,8 +16,10 @@ use Rattle.ties.proofs.Owners.{uses-long}
 use Rattle.wording.specs.Codes.{atFront}
 use Rattle.wording.proofs.Stores.{front-more}
 use Rattle.wording.proofs.WordLaws.{nine, words-length}
-use Rattle.expanding.specs.Given.{RowOf, RowGiven, RowsOf, RowsGiven}
-use Rattle.expanding.specs.Promises.{OneUse, OneWidths, Counted}
+use Rattle.using.specs.Given.{RowOf, RowGiven}
+use Rattle.using.specs.Promises.{OneUse, OneWidths}
+use Rattle.expanding.specs.Given.{RowsOf, RowsGiven}
+use Rattle.expanding.specs.Promises.{Counted}
 use Rattle.expanding.proofs.Spread.{spread, wordsEach, widthsEach, widths-length, spread-more, spread-long, joined-more, uses-more}
 
 -- the words of the row of that number, and what is behind

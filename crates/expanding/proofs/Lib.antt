@@ -1,5 +1,3 @@
-pub mod RowUse
-pub mod Stored
 pub mod Spread
 pub mod Growing
 pub mod Beginnings

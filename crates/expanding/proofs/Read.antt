@@ -17,8 +17,8 @@ use Rattle.ties.proofs.Pairs.{use-here, use-later}
 use Rattle.ties.proofs.Owners.{owners-long, owners-at, uses-long}
 use Rattle.wording.specs.Codes.{atFront}
 use Rattle.wording.proofs.WordLaws.{words-length}
+use Rattle.using.proofs.Stored.{counted-long, counted-at}
 use Rattle.expanding.specs.Insides.{insides, starts}
-use Rattle.expanding.proofs.Stored.{counted-long, counted-at}
 use Rattle.expanding.proofs.Spread.{words-append}
 use Rattle.expanding.proofs.Beginnings.{starts-long}
 

@@ -4,24 +4,11 @@ use mathlib.Core.List.{List}
 use Prim.Native.Nat.{ℕ, _*_}
 use lib.ListN.{length, take}
 use Rattle.words.specs.Words.{_∈_, Term, Subgoal}
-use Rattle.words.specs.Summaries.{definition, Over}
+use Rattle.words.specs.Summaries.{definition}
 use Rattle.words.specs.Book.{Book, admittedOf}
-use Rattle.layout.specs.RuleLayout.{TermsWithin}
 use Rattle.layout.specs.BookLayout.{SoundBook}
-use Rattle.coding.specs.Code.{termCode, subgoalWords, wordsOf}
+use Rattle.coding.specs.Code.{termCode, wordsOf}
 use Rattle.ties.specs.Bounds.{RowsWithin}
-
--- One row: its nine words at the front.
-pub record RowOf (book row : List ℕ) (b : Book) (g : Subgoal (Term ℕ)) : Type 0 where
-  pub sound : SoundBook book b
-  pub over : Over (admittedOf b) g
-  pub within : TermsWithin (g .terms)
-  pub words : take 9 row ≡ subgoalWords termCode g
-
-pub record RowGiven (book row : List ℕ) : Type 0 where
-  pub value : Book
-  pub goal : Subgoal (Term ℕ)
-  pub is : RowOf book row value goal
 
 -- So many rows: nine words each at the front. Each is as long as its summary's head.
 pub record RowsOf (book rows : List ℕ) (n : ℕ) (b : Book) (l : List (Subgoal (Term ℕ))) : Type 0 where

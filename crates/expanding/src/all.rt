@@ -5,12 +5,12 @@ ghost use lib.ListN.{length};
 ghost use Rattle.coding.specs.Code.{ownCode, ownSlot};
 ghost use Rattle.expanding.specs.Given.{RowsGiven};
 ghost use Rattle.expanding.specs.Promises.{Counted, AllWords, AllOwners, AllInsides, AllWidths, AllEnds, AllStarts};
-use super::marks::count_up;
-use super::marks::fill;
-use super::marks::mark_end;
-use super::one::own_use;
-use super::one::slot_use;
-use super::one::use_count;
+use using::marks::count_up;
+use using::marks::fill;
+use using::marks::mark_end;
+use using::one::own_use;
+use using::one::slot_use;
+use using::one::use_count;
 
 // As a target: of each subgoal its nine words, the number of its use and its place there. Returns how many subgoals there are.
 pub fn expand(

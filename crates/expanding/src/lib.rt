@@ -1,4 +1,2 @@
 // Rows over the admitted summaries of a sound book, as words, turned into the words of their uses.
 pub mod all; // the uses of a list of rows
-pub mod one; // one row's use
-mod marks; // numbers beside the subgoals of a use

@@ -28,8 +28,9 @@ use Rattle.promise.specs.Table.{Fault1, answerRoom, witnessRoom}
 use Rattle.promise.specs.Given.{written, answerBytes, witnessBytes, Given}
 use Rattle.promise.proofs.Rooms.{answer-fits, witness-fits}
 use Rattle.ties.proofs.Granted.{book-bounds, rows-bounds}
-use Rattle.expanding.specs.Given.{RowOf, RowGiven, RowsOf}
-use Rattle.expanding.proofs.RowUse.{summary-few}
+use Rattle.using.specs.Given.{RowOf, RowGiven}
+use Rattle.using.proofs.RowUse.{summary-few}
+use Rattle.expanding.specs.Given.{RowsOf}
 use Rattle.expanding.proofs.SummaryRows.{summary-rows}
 use Rattle.telling.specs.Told.{FewOf, Tells, ThereOf, ThereTold, BackOf, BackTold}
 use Rattle.putting.specs.Rewriting.{Accepted}

@@ -6,7 +6,7 @@ use lib.ListN.{length, replicate, length-replicate, length-take, length-drop}
 use Rattle.words.specs.Counted.{counted}
 use Rattle.coding.specs.Code.{ownCode}
 use Rattle.wording.proofs.WordLaws.{words-length}
-use Rattle.expanding.proofs.Stored.{counted-long}
+use Rattle.using.proofs.Stored.{counted-long}
 use Rattle.expanding.proofs.Spread.{wordsEach, ownEach, insideEach, words-spread, owners-spread, insides-spread}
 use Rattle.expanding.proofs.Growing.{Reached, SoFar, row-there, rows-room, reach-starts, so-starts, use-goals, words-added, numbers-added, reach-goes, so-goes, reach-ends, so-ends}
 use Rattle.expanding.proofs.all.expand.Statement.{statement}

@@ -1,7 +1,7 @@
 use borrow.Author.Needs.{needs}
-use Rattle.expanding.proofs.RowUse.{laid, one-count}
-use Rattle.expanding.proofs.one.use_count.Statement.{statement}
-use Rattle.expanding.proofs.one.use_count.Tie as tie
+use Rattle.using.proofs.RowUse.{laid, one-count}
+use Rattle.using.proofs.one.use_count.Statement.{statement}
+use Rattle.using.proofs.one.use_count.Tie as tie
 use mathlib.Core.Path.{refl}
 
 goal-count-requires : tie.Need-goal-count-requires

@@ -2,9 +2,9 @@ use borrow.Author.Needs.{needs}
 use Prim.Native.Nat.{_≤_, _-_}
 use native.Mathlib.Omega.{arith}
 use lib.ListN.{replicate, length-replicate}
-use Rattle.expanding.proofs.Stored.{Stored, store-starts, store-long, store-goes, store-ends, filled}
-use Rattle.expanding.proofs.marks.fill.Statement.{statement}
-use Rattle.expanding.proofs.marks.fill.Tie as tie
+use Rattle.using.proofs.Stored.{Stored, store-starts, store-long, store-goes, store-ends, filled}
+use Rattle.using.proofs.marks.fill.Statement.{statement}
+use Rattle.using.proofs.marks.fill.Tie as tie
 
 abbrev Inv-loop : tie.InvT-loop
 Inv-loop area₀ at many number k₀ area k = (k ≤ many) × Stored area₀ at (replicate many number) k area

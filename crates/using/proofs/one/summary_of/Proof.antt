@@ -1,8 +1,8 @@
 use borrow.Author.Needs.{needs}
 use native.Mathlib.Omega.{arith}
-use Rattle.expanding.proofs.RowUse.{summary-part, summary-few, nine-there}
-use Rattle.expanding.proofs.one.summary_of.Statement.{statement}
-use Rattle.expanding.proofs.one.summary_of.Tie as tie
+use Rattle.using.proofs.RowUse.{summary-part, summary-few, nine-there}
+use Rattle.using.proofs.one.summary_of.Statement.{statement}
+use Rattle.using.proofs.one.summary_of.Tie as tie
 
 shared-slice-read-part-of : tie.Need-shared-slice-read-part-of
 shared-slice-read-part-of c = omega (arith, nine-there (c .before .before .before .pre))

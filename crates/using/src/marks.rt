@@ -7,7 +7,7 @@ ghost use Rattle.words.specs.Counted.{counted};
 ghost use Rattle.ties.specs.Uses.{endOf};
 
 // One number, so many times.
-pub(crate) fn fill(area: &mut [u8], at: usize, many: usize, number: u8)
+pub fn fill(area: &mut [u8], at: usize, many: usize, number: u8)
     requires { ⌜ at + many ≤ length (now area) ⌝ }
     ensures { λ _. ⌜ now (area .exit) ≡ sets (now (area .entry)) at (replicate many number) ⌝ }
 {
@@ -19,7 +19,7 @@ pub(crate) fn fill(area: &mut [u8], at: usize, many: usize, number: u8)
 }
 
 // So many numbers, from 0 on.
-pub(crate) fn count_up(area: &mut [u8], at: usize, many: usize)
+pub fn count_up(area: &mut [u8], at: usize, many: usize)
     requires { ⌜ (at + many ≤ length (now area)) × (many < 256) ⌝ }
     ensures { λ _. ⌜ now (area .exit) ≡ sets (now (area .entry)) at (counted 0 many) ⌝ }
 {
@@ -31,7 +31,7 @@ pub(crate) fn count_up(area: &mut [u8], at: usize, many: usize)
 }
 
 // 1 for the last, 0 for the others.
-pub(crate) fn mark_end(area: &mut [u8], at: usize, many: usize)
+pub fn mark_end(area: &mut [u8], at: usize, many: usize)
     requires { ⌜ (1 ≤ many) × (at + many ≤ length (now area)) ⌝ }
     ensures { λ _. ⌜ now (area .exit) ≡ sets (now (area .entry)) at (endOf many) ⌝ }
 {

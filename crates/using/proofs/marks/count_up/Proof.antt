@@ -2,9 +2,9 @@ use borrow.Author.Needs.{needs}
 use Prim.Native.Nat.{_≤_, _-_}
 use native.Mathlib.Omega.{arith}
 use Rattle.words.specs.Counted.{counted}
-use Rattle.expanding.proofs.Stored.{Stored, store-starts, store-long, store-goes, store-ends, counted-long, counted-up}
-use Rattle.expanding.proofs.marks.count_up.Statement.{statement}
-use Rattle.expanding.proofs.marks.count_up.Tie as tie
+use Rattle.using.proofs.Stored.{Stored, store-starts, store-long, store-goes, store-ends, counted-long, counted-up}
+use Rattle.using.proofs.marks.count_up.Statement.{statement}
+use Rattle.using.proofs.marks.count_up.Tie as tie
 
 abbrev Inv-loop : tie.InvT-loop
 Inv-loop area₀ at many k₀ area k = (k ≤ many) × Stored area₀ at (counted 0 many) k area

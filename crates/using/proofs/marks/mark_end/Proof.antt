@@ -1,7 +1,7 @@
 use borrow.Author.Needs.{needs}
-use Rattle.expanding.proofs.Stored.{end-stored}
-use Rattle.expanding.proofs.marks.mark_end.Statement.{statement}
-use Rattle.expanding.proofs.marks.mark_end.Tie as tie
+use Rattle.using.proofs.Stored.{end-stored}
+use Rattle.using.proofs.marks.mark_end.Statement.{statement}
+use Rattle.using.proofs.marks.mark_end.Tie as tie
 
 returns : tie.Need-returns
 returns c = end-stored _ _ _ _ (c .before .before .before .before .before .pre .0) (c .before .before .fill .ensures)

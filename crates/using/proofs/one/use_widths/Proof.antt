@@ -1,7 +1,7 @@
 use borrow.Author.Needs.{needs}
-use Rattle.expanding.proofs.RowUse.{first-part, laid-for, one-widths}
-use Rattle.expanding.proofs.one.use_widths.Statement.{statement}
-use Rattle.expanding.proofs.one.use_widths.Tie as tie
+use Rattle.using.proofs.RowUse.{first-part, laid-for, one-widths}
+use Rattle.using.proofs.one.use_widths.Statement.{statement}
+use Rattle.using.proofs.one.use_widths.Tie as tie
 
 part-of-requires : tie.Need-part-of-requires
 part-of-requires c κs = first-part (c .before .before .before .before .pre .0)

@@ -26,8 +26,8 @@ use Rattle.wording.specs.Promises.{GoalCount, BodyWidths}
 use Rattle.builders.specs.Uses.{UseWords}
 use Rattle.wording.proofs.CodeLaws.{widths-each}
 use Rattle.wording.proofs.WordLaws.{padded-length, padded-front}
-use Rattle.expanding.specs.Given.{RowOf, RowGiven}
-use Rattle.expanding.specs.Promises.{OneUse, OneCount, OneWidths}
+use Rattle.using.specs.Given.{RowOf, RowGiven}
+use Rattle.using.specs.Promises.{OneUse, OneCount, OneWidths}
 
 -- words behind the first, taken from nine at the front
 behind : (row : List ℕ) (k x : ℕ) (l : List ℕ) → k ≤ 8 → take 9 row ≡ x ∷ l → take k (take (length row - 1) (drop 1 row)) ≡ take k l

@@ -1,0 +1,3 @@
+pub mod RowUse
+pub mod Stored
+pub mod Unique
