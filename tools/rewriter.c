@@ -332,10 +332,10 @@ static int enough(const struct frame *f, struct rows rows) {
 
 /* Chooses the rows of the answer, in order; answers how many, 0 if no list works. */
 static int choose(const struct frame *f, const struct row *rows, struct row *chosen) {
-    struct rows now = {0, f->rows == 64 ? ~(word)0 : ((word)1 << f->rows) - 1, 0};
+    struct rows now = {0, f->rows == 64 ? ~(word)0 : ((word)1 << f->rows) - 1, SUBGOALS};
     int got = 0;
-    for (; !enough(f, now); now.left++)
-        if (now.left == SUBGOALS) return 0; /* no list works if none as long as the question does */
+    if (!enough(f, now)) return 0; /* no list works if none as long as the question does, and fewer rows cannot do what more cannot */
+    for (now.left = 0; now.left < SUBGOALS && !enough(f, now); now.left++) continue;
     for (int r = 0; now.left > 0; r++) {
         now.may &= ~((word)1 << r);
         struct rows with_it = {with(now.used, r), now.may, now.left - 1};
