@@ -8,8 +8,8 @@ use lib.Seq.{take-at}
 use Rattle.promise.specs.Given.{answerBytes, witnessBytes}
 use Rattle.truth.specs.Truth.{Truth, Checks}
 use Rattle.truth.proofs.Own.{given-true}
-use Rattle.putting.specs.Rewriting.{Rewriting}
-use Rattle.putting.specs.declared.Outcome.the-variants.{Done}
+use Rattle.rewriter.specs.Rewriting.{Rewriting}
+use Rattle.rewriter.specs.declared.Outcome.the-variants.{Done}
 
 pub own-passes : {book a a₁ w w₁ : List ℕ} {n m : ℕ} → Rewriting book a a₁ w w₁ (Done n m) → {answer : Bool} → Checks book (take n a₁) (take m w₁) answer → answer ≡ true
 own-passes {book} {a₁ = a₁} {w₁ = w₁} {n} {m} x c =

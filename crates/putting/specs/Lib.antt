@@ -1,3 +1,3 @@
+pub mod Accepted
 pub mod Picked
-pub mod Rewriting
 pub mod Steps

@@ -1,6 +1,6 @@
 // The chosen rows of a sound book as the bytes of answer and witness, in two lent areas.
 ghost use lib.ListN.{length};
-ghost use Rattle.putting.specs.Rewriting.{Rewriting};
+ghost use Rattle.putting.specs.Accepted.{Accepted};
 ghost use Rattle.putting.specs.Steps.{Puts, ChosenPut};
 
 mod picking; // the chosen rows, out of the words of all
@@ -12,10 +12,10 @@ use telling::back::put_back;
 use telling::there::put_there;
 use writing::put_rule;
 
-// The lengths of answer and witness; or the refusal's number and place.
-pub enum Outcome {
-    Done(usize, usize),
-    Refused(u8, usize),
+// The lengths of answer and witness.
+pub struct Lengths {
+    pub answer: usize,
+    pub witness: usize,
 }
 
 // The witness's two parts, then the answer: k rows, by their words and widths.
@@ -26,14 +26,17 @@ fn put_all(
     k: usize,
     answer: &mut [u8],
     witness: &mut [u8],
-) -> Outcome
+) -> Lengths
     requires { ⌜ Puts (now book) (now words) (now widths) k (length (now answer)) (length (now witness)) ⌝ }
-    ensures { λ r. ⌜ Rewriting (now (book .entry)) (now (answer .entry)) (now (answer .exit)) (now (witness .entry)) (now (witness .exit)) r ⌝ }
+    ensures { λ r. ⌜ Accepted (now (book .entry)) (now (answer .entry)) (now (answer .exit)) (now (witness .entry)) (now (witness .exit)) (r .answer) (r .witness) ⌝ }
 {
     let there = put_there(book, words, k, witness);
     let back = put_back(book, words, k, witness, there);
     let long = put_rule(answer, part_of(book, 1), words, widths, k);
-    Outcome::Done(long, there + back)
+    Lengths {
+        answer: long,
+        witness: there + back,
+    }
 }
 
 // The rows chosen, written.
@@ -44,9 +47,9 @@ pub fn put_chosen(
     chosen: Chosen,
     answer: &mut [u8],
     witness: &mut [u8],
-) -> Outcome
+) -> Lengths
     requires { ⌜ ChosenPut (now book) (now rows) n chosen (length (now answer)) (length (now witness)) ⌝ }
-    ensures { λ r. ⌜ Rewriting (now (book .entry)) (now (answer .entry)) (now (answer .exit)) (now (witness .entry)) (now (witness .exit)) r ⌝ }
+    ensures { λ r. ⌜ Accepted (now (book .entry)) (now (answer .entry)) (now (answer .exit)) (now (witness .entry)) (now (witness .exit)) (r .answer) (r .witness) ⌝ }
 {
     let k = chosen.k;
     let picks = chosen.rows;

@@ -20,9 +20,10 @@ use Rattle.layout.proofs.Refused.{sound-unrefused}
 use Rattle.promise.specs.Table.{Refused, one, read, nine, ten, Fault9, Fault10}
 use Rattle.promise.specs.Given.{answerBytes, Given, written}
 use Rattle.promise.proofs.Demand.{given-same, given-fewer, given-few, refused-all, left-out-nine, left-out-ten, moved-back}
-use Rattle.putting.specs.Rewriting.{Accepted, TurnedDown, Rewriting}
-use Rattle.putting.specs.declared.Outcome.{Outcome}
-use Rattle.putting.specs.declared.Outcome.the-variants.{Done, Refused as RefusedWith}
+use Rattle.putting.specs.Accepted.{Accepted}
+use Rattle.rewriter.specs.Rewriting.{TurnedDown, Rewriting}
+use Rattle.rewriter.specs.declared.Outcome.{Outcome}
+use Rattle.rewriter.specs.declared.Outcome.the-variants.{Done, Refused as RefusedWith}
 use Rattle.rewriter.proofs.Unique.{rewriting-once}
 
 -- "Take a rewriting the rewriter gave, by its search and not from elsewhere": the rule that stands in the first n bytes of the answer area.

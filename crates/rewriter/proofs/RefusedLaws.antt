@@ -22,7 +22,7 @@ use Rattle.promise.proofs.Total.{fault-9}
 use Rattle.choosing.specs.Chosen.{ChosenBy, Found, NotFound}
 use Rattle.choosing.specs.declared.Chosen.{Chosen}
 use Rattle.posing.specs.Asked.{AskedOf, Asked, RowsChosen}
-use Rattle.putting.specs.Rewriting.{TurnedDown}
+use Rattle.rewriter.specs.Rewriting.{TurnedDown}
 use Rattle.putting.specs.Steps.{ChosenPut}
 use Rattle.putting.proofs.ChosenLaws.{few-rows}
 use Rattle.rewriter.specs.Steps.{Sounds, Rowed}

@@ -1,37 +1,17 @@
 -- Any two results that meet the promise are the same: the outcome, and every byte of both areas.
-use mathlib.Core.Path.{_≡_, refl, sym, ap, ap₂, _∙_}
+use mathlib.Core.Path.{_≡_, sym, ap₂, _∙_}
 use mathlib.Core.List.{List}
 use Prim.Native.Nat.{ℕ}
 use lib.ListN.{length}
-use Rattle.words.specs.Book.{Book}
-use Rattle.words.specs.Result.{Answered}
-use Rattle.promise.specs.Given.{written, answerBytes, witnessBytes, Given}
-use Rattle.promise.proofs.Once.{given-value, given-result, given-unrefused, refused-same}
-use Rattle.putting.specs.Rewriting.{Rewriting}
-use Rattle.putting.specs.declared.Outcome.{Outcome}
-use Rattle.putting.specs.declared.Outcome.the-variants.{Done, Refused as RefusedWith}
+use Rattle.promise.proofs.Once.{given-unrefused, refused-same}
+use Rattle.putting.proofs.Unique.{accepted-once}
+use Rattle.rewriter.specs.Rewriting.{Rewriting}
+use Rattle.rewriter.specs.declared.Outcome.{Outcome}
+use Rattle.rewriter.specs.declared.Outcome.the-variants.{Done, Refused as RefusedWith}
 
 module _ (book a w : List ℕ) where
-  abbrev answerOf : Given book (length a) (length w) → List ℕ
-  answerOf g = answerBytes (g .value .question) (g .result)
-
-  abbrev witnessOf : Given book (length a) (length w) → List ℕ
-  witnessOf g = witnessBytes (g .result)
-
-  same-answer : (g h : Given book (length a) (length w)) → answerOf g ≡ answerOf h
-  same-answer g h = ap₂ (λ (v : Book) (r : Answered). answerBytes (v .question) r) (given-value book (length a) (length w) g h) (given-result book (length a) (length w) g h)
-
-  same-witness : (g h : Given book (length a) (length w)) → witnessOf g ≡ witnessOf h
-  same-witness g h = ap (λ (r : Answered). witnessBytes r) (given-result book (length a) (length w) g h)
-
   pub rewriting-once : (r r′ : Outcome) (a₁ a₂ w₁ w₂ : List ℕ) → Rewriting book a a₁ w w₁ r → Rewriting book a a₂ w w₂ r′ → (r ≡ r′) × (a₁ ≡ a₂) × (w₁ ≡ w₂)
-  rewriting-once (Done n m) (Done n′ m′) a₁ a₂ w₁ w₂ x y =
-      let answers = same-answer (x .given) (y .given) in
-      let witnesses = same-witness (x .given) (y .given) in (
-        ap₂ Done (x .answer-long ∙ ap length answers ∙ sym (y .answer-long)) (x .witness-long ∙ ap length witnesses ∙ sym (y .witness-long)),
-        x .answer-is ∙ ap (λ l. written l a) answers ∙ sym (y .answer-is),
-        x .witness-is ∙ ap (λ l. written l w) witnesses ∙ sym (y .witness-is),
-      )
+  rewriting-once (Done n m) (Done n′ m′) a₁ a₂ w₁ w₂ x y = let e = accepted-once book a w n m n′ m′ a₁ a₂ w₁ w₂ x y in (ap₂ Done (e .0) (e .1), e .2, e .3)
   rewriting-once (Done n m) (RefusedWith k p) a₁ a₂ w₁ w₂ x y = absurd (given-unrefused book (length a) (length w) (x .given) (y .refused))
   rewriting-once (RefusedWith k p) (Done n m) a₁ a₂ w₁ w₂ x y = absurd (given-unrefused book (length a) (length w) (y .given) (x .refused))
   rewriting-once (RefusedWith k p) (RefusedWith l q) a₁ a₂ w₁ w₂ x y =

@@ -1,6 +1,6 @@
 // A book of bytes rewritten: the answer and its witness in two lent areas, or the refusal.
 ghost use lib.ListN.{length};
-ghost use Rattle.putting.specs.Rewriting.{Rewriting};
+ghost use Rattle.rewriter.specs.Rewriting.{Rewriting};
 ghost use Rattle.rewriter.specs.Steps.{Sounds, Rowed};
 use books::Reading;
 use books::read_book;
@@ -8,8 +8,12 @@ use listing::Listed;
 use listing::list_rows;
 use posing::choose_rows;
 use putting::put_chosen;
-// what `rewrite` returns: callers take it from this crate
-pub use putting::Outcome;
+
+// The lengths of answer and witness; or the refusal's number and place.
+pub enum Outcome {
+    Done(usize, usize),
+    Refused(u8, usize),
+}
 
 // Over all n rows: 10 where no list of them will do.
 fn rewrite_rows(
@@ -24,7 +28,8 @@ fn rewrite_rows(
 {
     let chosen = choose_rows(book, rows, n);
     if chosen.ok {
-        return put_chosen(book, rows, n, chosen, answer, witness);
+        let long = put_chosen(book, rows, n, chosen, answer, witness);
+        return Outcome::Done(long.answer, long.witness);
     }
     Outcome::Refused(10, 0)
 }
