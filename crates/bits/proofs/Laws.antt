@@ -9,7 +9,7 @@ use mathlib.Core.Bool.{Bool, true, false, false≢true}
 use borrow.Author.Tests.{eqb-true, eq-eqb}
 use lib.Bits.{bitOr, bitAnd, or-step, or-shr, or-comm, or-zero-l, and-step, and-shr}
 use lib.Pow.{shl-shr, shl-exact, shr-shr, shr-le, pow-add, pow-lt, field, mod-mod-pow, ones-split, high, ones-lt}
-use Rattle.bits.specs.Sets.{Has, has, with, below32, Within}
+use Rattle.bits.specs.Sets.{Has, has, with, below32, Within, Meets}
 
 pub has-true : (set x : ℕ) → has set x ≡ true → Has set x
 unfolding has Has
@@ -177,3 +177,10 @@ exactly-once false false f g = refl
 -- two answers on whether a set lies within another are the same
 pub within-once : (a b : ℕ) (r s : Bool) → Within a b r → Within a b s → r ≡ s
 within-once a b r s p q = exactly-once r s (p .exactly) (q .exactly)
+
+-- two answers on whether sets have a member in common are the same
+pub meets-once : (a b : ℕ) (r s : Bool) → Meets a b r → Meets a b s → r ≡ s
+meets-once a b true true p q = refl
+meets-once a b true false p q = p .exactly .1 (q .exactly .0 refl)
+meets-once a b false true p q = sym (q .exactly .1 (p .exactly .0 refl))
+meets-once a b false false p q = refl
