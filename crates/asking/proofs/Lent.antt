@@ -4,19 +4,14 @@ use mathlib.Core.List.{List, map}
 use Prim.Native.Nat.{ℕ, zero, suc, _*_, _≤_}
 use native.Mathlib.Omega.{arith}
 use lib.ListN.{length, getD, take, replicate, length-map}
-use lib.Seq.{length-take-le, take-at}
+use lib.Seq.{length-take-le}
 use Rattle.words.specs.Words.{Term, Subgoal}
 use Rattle.words.specs.Book.{Book}
 use Rattle.layout.specs.BookLayout.{SoundBook}
 use Rattle.coding.specs.Code.{slotCode, termCode, wordsOf, widthsOf}
-use Rattle.wording.specs.Codes.{atFront}
-use Rattle.wording.proofs.Stores.{front-length}
+use Rattle.wording.proofs.Stores.{front-length, front-again}
 use Rattle.wording.proofs.WordLaws.{words-length}
 use Rattle.asking.specs.Question.{QuestionSource, QuestionTarget}
-
--- the front of an area, as it is read again
-pub front-again : (front before after : List ℕ) (n : ℕ) → after ≡ atFront front before → length front ≡ n → take n after ≡ front
-front-again front before after n e f = ap (take n) e ∙ take-at front _ n f
 
 -- the front of an empty area has zeros alone
 pub zeros-at : (n m k : ℕ) → getD {A = ℕ} (take n (replicate m 0)) k 0 ≡ 0

@@ -17,8 +17,9 @@ use Rattle.layout.proofs.BookPasses.{question-reads}
 use Rattle.wording.specs.Promises.{GoalCount}
 use Rattle.promise.proofs.Rooms.{there-long}
 use Rattle.asking.specs.Question.{SomeSound}
-use Rattle.telling.specs.Told.{FewOf, Few}
-use Rattle.confirming.specs.Confirms.{ThereConfirms, BackConfirms}
+use Rattle.sending.specs.Told.{FewOf, Few}
+use Rattle.going.specs.Confirms.{ThereConfirms}
+use Rattle.confirming.specs.Confirms.{BackConfirms}
 use Rattle.bits.proofs.Laws.{exactly-no}
 use Rattle.checker.specs.Steps.{QuestionGoals, Witness, Confirms}
 

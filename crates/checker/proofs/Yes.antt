@@ -16,11 +16,11 @@ use Rattle.layout.proofs.Refused.{sound-unrefused}
 use Rattle.coding.specs.Code.{termCode, wordsOf}
 use Rattle.wording.proofs.WordLaws.{words-length}
 use Rattle.asking.specs.Question.{SomeSound}
-use Rattle.asking.proofs.Lent.{front-again}
+use Rattle.wording.proofs.Stores.{front-again}
 use Rattle.books.specs.Says.{ReadingSays}
 use Rattle.books.specs.declared.Reading.{Reading}
 use Rattle.books.specs.declared.Reading.the-variants.{Sound, Refused}
-use Rattle.telling.specs.Told.{FewOf, Few}
+use Rattle.sending.specs.Told.{FewOf, Few}
 use Rattle.truth.specs.Truth.{RewritingRule, Truth, Checks}
 use Rattle.truth.proofs.AsRule.{rule-once}
 use Rattle.proposed.specs.Proposed.{IsProposed, Proposed, empty}

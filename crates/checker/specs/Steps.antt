@@ -10,7 +10,7 @@ use Rattle.words.specs.Summaries.{rewriting}
 use Rattle.words.specs.Answer.{There, Back}
 use Rattle.words.specs.Book.{Book, admittedOf}
 use Rattle.layout.specs.BookLayout.{SoundBook}
-use Rattle.telling.specs.Told.{FewOf}
+use Rattle.sending.specs.Told.{FewOf}
 
 pub record QuestionGoals (book : List ℕ) (n : ℕ) : Type 0 where
   pub is : (b : Book) → SoundBook book b → n ≡ length (b .question .body)

@@ -1,13 +1,13 @@
 // The checker: a book, a rewriting and a witness, each as bytes. It writes nothing, and searches for nothing.
 ghost use Rattle.asking.specs.Question.{SomeSound};
-ghost use Rattle.telling.specs.Told.{Few};
+ghost use Rattle.sending.specs.Told.{Few};
 ghost use Rattle.truth.specs.Truth.{Checks};
 ghost use Rattle.checker.specs.Steps.{QuestionGoals, Confirms};
 use books::Reading;
 use books::parts::part_of;
 use books::read_book;
 use confirming::back::comes_back;
-use confirming::there::goes_there;
+use going::goes_there;
 use proposed::propose;
 use wording::places::goal_count;
 

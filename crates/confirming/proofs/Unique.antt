@@ -4,7 +4,7 @@ use mathlib.Core.Bool.{Bool}
 use mathlib.Core.List.{List}
 use Prim.Native.Nat.{ℕ}
 use Rattle.bits.proofs.Laws.{exactly-once}
-use Rattle.telling.specs.Told.{Few}
+use Rattle.sending.specs.Told.{Few}
 use Rattle.confirming.specs.Confirms.{BackConfirms}
 
 module _ {book rows : List ℕ} {k : ℕ} (w : Few book rows k) (witness : List ℕ) (r s : Bool) where

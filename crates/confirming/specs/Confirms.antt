@@ -1,5 +1,4 @@
 -- What is promised of the second part of a witness, of every value of the book and every list whose words the rows are.
--- What is promised of the first part is passed on.
 use mathlib.Core.Path.{_≡_}
 use mathlib.Core.Bool.{Bool, true}
 use mathlib.Core.Logic.{_↔_}
@@ -9,8 +8,7 @@ use Rattle.words.specs.Words.{Term, Subgoal}
 use Rattle.words.specs.Summaries.{rewriting}
 use Rattle.words.specs.Answer.{Back}
 use Rattle.words.specs.Book.{Book, admittedOf}
-use Rattle.telling.specs.Told.{FewOf}
-pub use Rattle.going.specs.Confirms.{ThereConfirms}
+use Rattle.sending.specs.Told.{FewOf}
 
 module _ (book rows : List ℕ) (k : ℕ) (witness : List ℕ) (answer : Bool) where
   -- "both parts are containment mappings": the second, no byte over and none missing

@@ -1,7 +1,7 @@
 // "per rewriting subgoal and per subgoal of its summary, one byte: question subgoal".
 ghost use Prim.Native.Nat.{_≤_};
 ghost use lib.ListN.{length};
-ghost use Rattle.telling.specs.Told.{Few};
+ghost use Rattle.sending.specs.Told.{Few};
 ghost use Rattle.telling.specs.Steps.{From};
 ghost use Rattle.confirming.specs.Confirms.{BackConfirms};
 ghost use Rattle.confirming.specs.Places.{Before, BytePlaces};

@@ -13,7 +13,7 @@ use Rattle.ties.proofs.Owners.{uses-long}
 use Rattle.expanding.specs.Insides.{starts}
 use Rattle.expanding.specs.Promises.{Counted, AllWords, AllOwners, AllInsides, AllStarts}
 use Rattle.expanding.proofs.Beginnings.{starts-long}
-use Rattle.asking.proofs.Lent.{front-again}
+use Rattle.wording.proofs.Stores.{front-again}
 use Rattle.sending.specs.Told.{FewOf, Few}
 use Rattle.sending.proofs.Expanded.{onto-of}
 use Rattle.going.specs.Confirms.{ThereConfirms}

@@ -19,7 +19,7 @@ use Rattle.wording.proofs.Stores.{front-length}
 use Rattle.wording.proofs.WordLaws.{words-length}
 use Rattle.rows.specs.RowTask.{alone, onto}
 use Rattle.tasks.specs.Tasks.{TargetWords}
-use Rattle.tasks.proofs.Behind.{front-read}
+use Rattle.wording.proofs.Stores.{front-again}
 use Rattle.listing.specs.Listing.{Sought}
 use Rattle.listing.specs.Placings.{TargetIs}
 use Rattle.listing.specs.Turns.{OntoQuestion}
@@ -72,6 +72,6 @@ module _ {book : List ℕ} {area : ℕ} (w : Sought book area) where
               record {
                 terms = t .terms q l;
                 all = t .all q l;
-                words = ap (take (9 * n)) (t .words q l) ∙ front-read words before (9 * n) (omega (arith, words-length termCode (onto (t .terms q l) q), t .count q l));
+                words = front-again words before _ (9 * n) (t .words q l) (omega (arith, words-length termCode (onto (t .terms q l) q), t .count q l));
                 marks = zeros-take n 108 targets-few ∙ ap (λ k. replicate k 0) (t .count q l);
               }

@@ -15,7 +15,7 @@ use Rattle.rows.specs.RowTask.{alone, placed, TaskOf}
 use Rattle.rows.specs.RowsAfter.{Asked, Promised}
 use Rattle.rows.specs.declared.Tally.{Tally}
 use Rattle.tasks.specs.Tasks.{SummaryIs, SourceWords}
-use Rattle.tasks.proofs.Behind.{front-read}
+use Rattle.wording.proofs.Stores.{front-again}
 use Rattle.tasks.proofs.SourceSteps.{widths-count}
 use Rattle.listing.specs.Placings.{Placing, SomePlacing, PlacedRows}
 
@@ -76,10 +76,10 @@ module _ {relations bytes target own : List ℕ} {found area : ℕ} (w : SomePla
       where
         source-is : take (9 * n) source ≡ wordsOf slotCode (placed v)
         source-is =
-            ap (take (9 * n)) (s .words v (p .summary)) ∙ front-read (wordsOf slotCode (placed v)) before (9 * n) (omega (arith, words-length slotCode (placed v), s .count v (p .summary)))
+            front-again (wordsOf slotCode (placed v)) before _ (9 * n) (s .words v (p .summary)) (omega (arith, words-length slotCode (placed v), s .count v (p .summary)))
 
         widths-is : take n widths ≡ widthsOf (placed v)
-        widths-is = ap (take n) (s .widths v (p .summary)) ∙ front-read (widthsOf (placed v)) old n (s .count v (p .summary) ∙ sym (widths-count (placed v)))
+        widths-is = front-again (widthsOf (placed v)) old _ n (s .widths v (p .summary)) (widths-count (placed v) ∙ sym (s .count v (p .summary)))
 
         lasts-is : _≡_ {A = List ℕ} (take n (replicate 16 0)) (replicate (length (placed v)) 0)
         lasts-is = zeros-take n 16 goals-few ∙ ap (λ k. replicate k 0) (s .count v (p .summary))

@@ -14,12 +14,12 @@ use Rattle.bits.proofs.Laws.{has-none, or-left, or-right, or-cases, same-member
 use Rattle.slots.specs.Task.{Task, Sized, goals, targets, rowOf}
 use Rattle.slots.specs.declared.Rows.{Rows}
 use Rattle.outlook.specs.Outlook.{SameUse, UseEnd, HasTarget, Offers, SlotOf, SlotsOf, memberOf, noWants, Wanting, Most, fairly, vainly}
-use Rattle.outlook.specs.Seen.{Count, none, counted, passed, Hopeless, WantsRow, ServedBy, TooMany, WantedSlot, Seen, closed, alone, together, fair}
+use Rattle.outlook.specs.Seen.{Count, none, counted, passed, NoRowFor, WantsRow, ServedBy, TooMany, WantedSlot, Seen, closed, alone, together, fair}
 use Rattle.outlook.specs.declared.Wants.{Wants}
 use Rattle.outlook.proofs.Counting.{count-once, count-none, count-to}
 
 pub record Counted (p : Task) (at : ℕ) (b : List ℕ) (rows : Rows) (w : Wants) (i : ℕ) : Type 0 where
-  pub hopeful : (j : ℕ) → j < i → Hopeless p at b rows j → ⊥
+  pub hopeful : (j : ℕ) → j < i → NoRowFor p at b rows j → ⊥
   pub many : Count (WantsRow p at b rows) i (w .many)
   pub served : (x : ℕ) → x < 64 → Count (ServedBy p at b rows x) i (getD (w .served) x 0)
   pub slots : (x : ℕ) → Has (w .slots) x ↔ ((s : WantedSlot p at b rows x) × (s .i < i))
@@ -39,7 +39,7 @@ module _ (p : Task) (at : ℕ) (b : List ℕ) (rows : Rows) where
     open-row x h = or-cases (rows .used) (rows .may) x (f .only x h .0)
 
     -- a row has a target for it exactly if some row is offered
-    pub hope : (with ≡ 0 → ⊥) → Hopeless p at b rows i → ⊥
+    pub hope : (with ≡ 0 → ⊥) → NoRowFor p at b rows i → ⊥
     hope n s = n (same-members with 0 (λ x. (λ h. absurd (s .never x (open-row x h) (f .only x h .1)), λ h. absurd (has-none x h))))
 
     either : (x : ℕ) → Has (rows .used) x ⊎ Has (rows .may) x → Has (bitOr (rows .used) (rows .may)) x
@@ -48,7 +48,7 @@ module _ (p : Task) (at : ℕ) (b : List ℕ) (rows : Rows) where
     offered : ((x : ℕ) → Has with x → Has (rows .used) x → ⊥) → (x : ℕ) → Has (rows .used) x ⊎ Has (rows .may) x → HasTarget p b i x → Has with x
     offered m x o t = subst (Has with) (t .row) (f .each m (t .k) (t .within) (rw (t .row) (either x o)) (t .fits))
 
-    pub despair : SameUse (p .lasts) at i → with ≡ 0 → Hopeless p at b rows i
+    pub despair : SameUse (p .lasts) at i → with ≡ 0 → NoRowFor p at b rows i
     despair u e = record { same = u; never = λ x o t. has-none x (subst (λ s. Has s x) e (offered (λ y h. absurd (has-none y (subst (λ s. Has s y) e h))) x o t)) }
 
     -- where a row in use is offered it wants no other
@@ -66,11 +66,11 @@ module _ (p : Task) (at : ℕ) (b : List ℕ) (rows : Rows) where
       served-by x s = offered (m .exactly .0 refl) x (inr (s .allowed)) (s .has)
 
   module _ (w : Wants) (i : ℕ) (q : Counted p at b rows w i) where
-    further : (f : Hopeless p at b rows i → ⊥) (j : ℕ) → j < suc i → Hopeless p at b rows j → ⊥
+    further : (f : NoRowFor p at b rows i → ⊥) (j : ℕ) → j < suc i → NoRowFor p at b rows j → ⊥
     further f j h s = elim (ℕ-discrete j i) [ yes e ↦ f (rw e at s) | no e ↦ q .hopeful j (omega arith) s ]
 
     -- one that wants no row
-    pub counted-next : (Hopeless p at b rows i → ⊥) → (WantsRow p at b rows i → ⊥) → Counted p at b rows w (i + 1)
+    pub counted-next : (NoRowFor p at b rows i → ⊥) → (WantsRow p at b rows i → ⊥) → Counted p at b rows w (i + 1)
     counted-next f n =
         let e : i + 1 ≡ suc i = omega arith in
         rw e record {
@@ -84,7 +84,7 @@ module _ (p : Task) (at : ℕ) (b : List ℕ) (rows : Rows) where
         }
 
     -- one that does
-    module _ (f : Hopeless p at b rows i → ⊥) (n : WantsRow p at b rows i) (with : ℕ) (is : (x : ℕ) → Has with x ↔ ServedBy p at b rows x i) (slots : ℕ) (s : SlotsOf p i (w .slots) slots) (more : Wants) (g : Wanting w with slots more) where
+    module _ (f : NoRowFor p at b rows i → ⊥) (n : WantsRow p at b rows i) (with : ℕ) (is : (x : ℕ) → Has with x ↔ ServedBy p at b rows x i) (slots : ℕ) (s : SlotsOf p i (w .slots) slots) (more : Wants) (g : Wanting w with slots more) where
       by : (x : ℕ) → x < 64 → Count (ServedBy p at b rows x) (suc i) (getD (more .served) x 0)
       unfolding Has memberOf
       by x h = elim (ℕ-discrete (memberOf with x) 1) [
@@ -115,7 +115,7 @@ module _ (p : Task) (z : Sized p) (at : ℕ) (b : List ℕ) (rows : Rows) (taken
   gone : (j : ℕ) → goals p ≤ j → SameUse (p .lasts) at j → ⊥
   gone j l s = omega (arith, z .lasts, s .there)
 
-  none-hopeless : (j : ℕ) → Hopeless p at b rows j → ⊥
+  none-hopeless : (j : ℕ) → NoRowFor p at b rows j → ⊥
   none-hopeless j s = q .hopeful j (omega (arith, u .exactly j .1 (s .same) .1)) s
 
   want : Count (WantsRow p at b rows) (goals p) (w .many)
@@ -139,6 +139,6 @@ module _ (p : Task) (z : Sized p) (at : ℕ) (b : List ℕ) (rows : Rows) (taken
       fair taken none-hopeless
       (λ t. let x = y .one in l (omega (arith, count-once _ (goals p) (t .many) (w .many) (t .want) want, t .each (x .0) m (x .1) (rw (sym (x .2)) (serve (x .0) (x .1))))))
 
-pub seen-alone : (p : Task) (at : ℕ) (b : List ℕ) (rows : Rows) (taken : rows .may ≡ 0 → ⊥) (w : Wants) (i : ℕ) → Counted p at b rows w i → Hopeless p at b rows i → (slots : ℕ) → SlotsOf p i 0 slots → Seen p at b rows (vainly slots false)
+pub seen-alone : (p : Task) (at : ℕ) (b : List ℕ) (rows : Rows) (taken : rows .may ≡ 0 → ⊥) (w : Wants) (i : ℕ) → Counted p at b rows w i → NoRowFor p at b rows i → (slots : ℕ) → SlotsOf p i 0 slots → Seen p at b rows (vainly slots false)
 seen-alone p at b rows taken w i q s slots o =
     alone taken i slots s (q .hopeful) (λ x. (λ h. ⊎-elim (λ n. absurd (has-none x n)) (λ y. y) (o .exactly x .0 h), λ y. o .exactly x .1 (inr y)))

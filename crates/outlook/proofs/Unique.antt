@@ -11,7 +11,7 @@ use Rattle.bits.proofs.Laws.{same-members}
 use Rattle.slots.specs.Task.{Task}
 use Rattle.slots.specs.declared.Rows.{Rows}
 use Rattle.outlook.specs.Outlook.{SlotOf, vainly}
-use Rattle.outlook.specs.Seen.{Hopeless, Seen, closed, alone, together, fair, Outlooks}
+use Rattle.outlook.specs.Seen.{NoRowFor, Seen, closed, alone, together, fair, Outlooks}
 use Rattle.outlook.specs.declared.Outlook.{Outlook}
 
 module _ (p : Task) (at : ℕ) (b : List ℕ) (rows : Rows) where
@@ -19,7 +19,7 @@ module _ (p : Task) (at : ℕ) (b : List ℕ) (rows : Rows) where
   blamed : {P : ℕ → Type 0} (s t : ℕ) (short : Bool) → ((x : ℕ) → Has s x ↔ P x) → ((x : ℕ) → Has t x ↔ P x) → vainly s short ≡ vainly t short
   blamed s t short f g = ap (λ n. vainly n short) (same-members s t (λ x. (λ h. g x .1 (f x .0 h), λ h. f x .1 (g x .0 h))))
 
-  first : (i j : ℕ) → Hopeless p at b rows i → ((k : ℕ) → k < i → Hopeless p at b rows k → ⊥) → Hopeless p at b rows j → ((k : ℕ) → k < j → Hopeless p at b rows k → ⊥) → j ≡ i
+  first : (i j : ℕ) → NoRowFor p at b rows i → ((k : ℕ) → k < i → NoRowFor p at b rows k → ⊥) → NoRowFor p at b rows j → ((k : ℕ) → k < j → NoRowFor p at b rows k → ⊥) → j ≡ i
   first i j h f k g = elim (decLt i j) [
     | yes l ↦ absurd (g i l h)
     | no l ↦ elim (decLt j i) [ yes m ↦ absurd (f j m k) | no m ↦ omega arith ]

@@ -18,7 +18,7 @@ pub data Count (P : ℕ → Type 0) : ℕ → ℕ → Type 0 where
   passed : {m n : ℕ} → (P m → ⊥) → Count P m n → Count P (suc m) n
 
 -- no row that is in use or may be taken has a target for the source subgoal i
-pub record Hopeless (p : Task) (at : ℕ) (b : List ℕ) (rows : Rows) (i : ℕ) : Type 0 where
+pub record NoRowFor (p : Task) (at : ℕ) (b : List ℕ) (rows : Rows) (i : ℕ) : Type 0 where
   pub same : SameUse (p .lasts) at i
   pub never : (x : ℕ) → Has (rows .used) x ⊎ Has (rows .may) x → HasTarget p b i x → ⊥
 
@@ -49,10 +49,10 @@ pub data Seen (p : Task) (at : ℕ) (b : List ℕ) (rows : Rows) : Outlook → T
   -- where no row may be taken nothing is looked at
   closed : rows .may ≡ 0 → Seen p at b rows fairly
   -- the first without hope; its slots are to blame
-  alone : (rows .may ≡ 0 → ⊥) → (i slots : ℕ) → Hopeless p at b rows i → ((j : ℕ) → j < i → Hopeless p at b rows j → ⊥) → ((x : ℕ) → Has slots x ↔ SlotOf p i x) → Seen p at b rows (vainly slots false)
+  alone : (rows .may ≡ 0 → ⊥) → (i slots : ℕ) → NoRowFor p at b rows i → ((j : ℕ) → j < i → NoRowFor p at b rows j → ⊥) → ((x : ℕ) → Has slots x ↔ SlotOf p i x) → Seen p at b rows (vainly slots false)
   -- none is without hope, but they are too many together; the slots of all that want a row are to blame
-  together : (rows .may ≡ 0 → ⊥) → (slots : ℕ) → ((i : ℕ) → Hopeless p at b rows i → ⊥) → TooMany p at b rows → ((x : ℕ) → Has slots x ↔ WantedSlot p at b rows x) → Seen p at b rows (vainly slots true)
-  fair : (rows .may ≡ 0 → ⊥) → ((i : ℕ) → Hopeless p at b rows i → ⊥) → (TooMany p at b rows → ⊥) → Seen p at b rows fairly
+  together : (rows .may ≡ 0 → ⊥) → (slots : ℕ) → ((i : ℕ) → NoRowFor p at b rows i → ⊥) → TooMany p at b rows → ((x : ℕ) → Has slots x ↔ WantedSlot p at b rows x) → Seen p at b rows (vainly slots true)
+  fair : (rows .may ≡ 0 → ⊥) → ((i : ℕ) → NoRowFor p at b rows i → ⊥) → (TooMany p at b rows → ⊥) → Seen p at b rows fairly
 
 pub record Outlooks (p : Task) (at : ℕ) (b : List ℕ) (rows : Rows) (r : Outlook) : Type 0 where
   pub seen : Seen p at b rows r

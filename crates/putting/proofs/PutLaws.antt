@@ -32,7 +32,8 @@ use Rattle.using.specs.Given.{RowOf, RowGiven}
 use Rattle.using.proofs.RowUse.{summary-few}
 use Rattle.expanding.specs.Given.{RowsOf}
 use Rattle.expanding.proofs.SummaryRows.{summary-rows}
-use Rattle.telling.specs.Told.{FewOf, Tells, ThereOf, ThereTold, BackOf, BackTold}
+use Rattle.sending.specs.Told.{FewOf, Tells, ThereOf, ThereTold}
+use Rattle.telling.specs.Told.{BackOf, BackTold}
 use Rattle.putting.specs.Accepted.{Accepted}
 use Rattle.putting.specs.Steps.{Puts}
 use Rattle.putting.proofs.ChosenLaws.{stored-front}

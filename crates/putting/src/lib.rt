@@ -8,8 +8,8 @@ mod picking; // the chosen rows, out of the words of all
 use books::parts::part_of;
 use choosing::Chosen;
 use picking::pick;
+use sending::put_there;
 use telling::back::put_back;
-use telling::there::put_there;
 use writing::put_rule;
 
 // The lengths of answer and witness.

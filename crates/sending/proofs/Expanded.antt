@@ -21,7 +21,7 @@ use Rattle.expanding.specs.Given.{RowsOf, RowsGiven}
 use Rattle.expanding.specs.Insides.{insides}
 use Rattle.expanding.specs.Promises.{Counted, AllWords, AllOwners, AllInsides, AllWidths, AllEnds}
 use Rattle.expanding.proofs.Read.{insides-long}
-use Rattle.asking.proofs.Lent.{front-again}
+use Rattle.wording.proofs.Stores.{front-again}
 use Rattle.sending.specs.Told.{FewOf, Few, Tells, ThereTold}
 use Rattle.sending.specs.Steps.{ListOf, OntoOf, Onto, OntoServing, OntoTold}
 

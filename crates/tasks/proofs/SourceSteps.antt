@@ -17,7 +17,8 @@ use Rattle.rows.proofs.TableLaws.{words-append}
 use Rattle.tasks.specs.Alone.{aloneWords}
 use Rattle.tasks.specs.Tasks.{SummaryIs, SomeSummary, HeadSlots, SourceWords}
 use Rattle.tasks.proofs.AloneLaws.{alone-words}
-use Rattle.tasks.proofs.Behind.{part-long, front-read, mid-long, behind}
+use Rattle.tasks.proofs.Behind.{part-long, mid-long, behind}
+use Rattle.wording.proofs.Stores.{front-again}
 use Rattle.tasks.proofs.SlotSteps.{heads-few}
 
 -- ones at the front of ones
@@ -32,7 +33,7 @@ widths-count gs = length-map gs (λ g. length (g .terms))
 module _ {relations bytes : List ℕ} (w : SomeSummary relations bytes) {h : ℕ} (count : HeadCount bytes h) {slots : List ℕ} (is : HeadSlots bytes slots) where
   slots-are : (v : Rule ℕ) → SummaryIs relations bytes v → take h slots ≡ map slotCode (v .head)
   slots-are v s =
-      ap (take h) (is .is relations v s) ∙ front-read (map slotCode (v .head)) (replicate 8 0) h (count .is relations 8 v (s .layout) ∙ sym (length-map (v .head) slotCode))
+      front-again (map slotCode (v .head)) (replicate 8 0) _ h (is .is relations v s) (length-map (v .head) slotCode ∙ sym (count .is relations 8 v (s .layout)))
 
   pub slots-long : length slots ≡ 8
   slots-long =

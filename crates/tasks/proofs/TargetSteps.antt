@@ -21,7 +21,8 @@ use Rattle.rows.proofs.TableLaws.{words-append}
 use Rattle.tasks.specs.Alone.{aloneWords}
 use Rattle.tasks.specs.Tasks.{TermsOf, TargetWords}
 use Rattle.tasks.proofs.AloneLaws.{alone-words}
-use Rattle.tasks.proofs.Behind.{part-long, front-read, mid-long, behind}
+use Rattle.tasks.proofs.Behind.{part-long, mid-long, behind}
+use Rattle.wording.proofs.Stores.{front-again}
 use Rattle.tasks.proofs.TermsListed.{termsOf, terms-words, terms-of}
 
 module _ {relations bytes : List ℕ} (laid : QuestionLaid relations bytes) {zeros terms : List ℕ} {n : ℕ} (room : length zeros ≡ 108) (listed : BodyTerms relations bytes zeros terms n) where
@@ -54,7 +55,7 @@ module _ {relations bytes : List ℕ} (laid : QuestionLaid relations bytes) {zer
   shown-long = length-take-le n terms (omega (arith, terms-long, terms-few))
 
   shown : (q : Rule ℕ) (l : Layout relations questionMost bytes q) → take n terms ≡ map termCode (termList q l)
-  shown q l = ap (take n) (in-order q l .written) ∙ front-read (in-order q l .list) zeros n (in-order q l .count) ∙ sym (as-words q l)
+  shown q l = front-again (in-order q l .list) zeros _ n (in-order q l .written) (sym (in-order q l .count)) ∙ sym (as-words q l)
 
   pub terms-room : {area : ℕ} → 972 ≤ area → 9 * length (take n terms) ≤ area
   terms-room r = omega (arith, shown-long, terms-few)

@@ -21,7 +21,8 @@ use Rattle.ties.proofs.Back.{back-sized, back-is, back-first, back-some}
 use Rattle.writing.specs.Witness.{placeBytes, Placed}
 use Rattle.asking.specs.Question.{SomeSound, QuestionTarget, QuestionBound}
 use Rattle.asking.proofs.Lent.{zeros-at, targets-few, target-words}
-use Rattle.telling.specs.Told.{Serves, BackOf}
+use Rattle.sending.specs.Told.{Serves}
+use Rattle.telling.specs.Told.{BackOf}
 use Rattle.telling.specs.Steps.{FromOf, From}
 use Rattle.sending.proofs.Found.{FoundAt, found-at}
 

@@ -12,9 +12,10 @@ use Rattle.wording.proofs.WordLaws.{words-length}
 use Rattle.ties.specs.Uses.{endsOf}
 use Rattle.ties.proofs.UseOf.{ends-long}
 use Rattle.expanding.specs.Promises.{Counted, AllWords, AllWidths, AllEnds}
-use Rattle.asking.proofs.Lent.{front-again}
+use Rattle.wording.proofs.Stores.{front-again}
 use Rattle.sending.proofs.Expanded.{list-of, all, many}
-use Rattle.telling.specs.Told.{FewOf, Few, Tells, BackTold}
+use Rattle.sending.specs.Told.{FewOf, Few, Tells}
+use Rattle.telling.specs.Told.{BackTold}
 use Rattle.telling.specs.Steps.{FromOf, From, FromServing, FromTold}
 
 module _ {book rows : List ℕ} {k n : ℕ} (counted : Counted book rows k n)

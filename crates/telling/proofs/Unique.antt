@@ -6,7 +6,8 @@ use lib.ListN.{length}
 use lib.Seq.{sets}
 use Rattle.words.specs.Strict.{first-unique}
 use Rattle.words.specs.Orders.{bytesOrder}
-use Rattle.telling.specs.Told.{Tells, BackTold}
+use Rattle.sending.specs.Told.{Tells}
+use Rattle.telling.specs.Told.{BackTold}
 
 module _ {book rows : List ℕ} {k : ℕ} (w : Tells book rows k) where
   pub back-once : {at : ℕ} {before after other : List ℕ} {n m : ℕ} → BackTold book rows k at before after n → BackTold book rows k at before other m → (n ≡ m) × (after ≡ other)

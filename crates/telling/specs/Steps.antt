@@ -8,7 +8,8 @@ use Rattle.words.specs.Book.{Book, admittedOf}
 use Rattle.coding.specs.Code.{ownSlot, wordsOf, widthsOf}
 use Rattle.ties.specs.Uses.{endsOf}
 use Rattle.sending.specs.Steps.{ListOf}
-use Rattle.telling.specs.Told.{Serves, BackOf}
+use Rattle.sending.specs.Told.{Serves}
+use Rattle.telling.specs.Told.{BackOf}
 
 module _ (book source widths lasts : List ℕ) where
   -- as sources: words, how many terms each has, and whether it ends its use

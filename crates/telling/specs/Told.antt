@@ -1,5 +1,4 @@
 -- What is promised of the second part of the witness, of every value of the book and every list whose words the rows are.
--- What is promised of the first part is passed on.
 use mathlib.Core.Path.{_≡_}
 use mathlib.Core.List.{List}
 use Prim.Native.Nat.{ℕ, _≤_}
@@ -9,7 +8,7 @@ use Rattle.words.specs.Words.{Term, Subgoal}
 use Rattle.words.specs.Summaries.{rewriting}
 use Rattle.words.specs.Answer.{FirstBack}
 use Rattle.words.specs.Book.{Book, admittedOf}
-pub use Rattle.sending.specs.Told.{FewOf, Few, Serves, Tells, ThereOf, ThereTold}
+use Rattle.sending.specs.Told.{FewOf, Serves}
 
 -- The second part, from `at` on.
 pub record BackOf (b : Book) (l : List (Subgoal (Term ℕ))) (at : ℕ) (before after : List ℕ) (n : ℕ) : Type 0 where

@@ -1,7 +1,8 @@
 // "per rewriting subgoal and per subgoal of its summary, one byte: question subgoal".
 ghost use Prim.Native.Nat.{_+_, _≤_};
 ghost use lib.ListN.{length};
-ghost use Rattle.telling.specs.Told.{Tells, BackTold};
+ghost use Rattle.sending.specs.Told.{Tells};
+ghost use Rattle.telling.specs.Told.{BackTold};
 ghost use Rattle.telling.specs.Steps.{FromServing, FromTold};
 use asking::question_bindings;
 use asking::question_target;

@@ -1,3 +1,2 @@
-// The second part of the witness: the first mapping from the rewriting's expansion back to the question, written as bytes. It passes on the first part.
+// The second part of the witness: the first mapping from the rewriting's expansion back to the question, written as bytes.
 pub mod back; // from the rewriting's expansion to the question
-pub mod there; // from the question to the rewriting's expansion

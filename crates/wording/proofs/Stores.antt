@@ -5,7 +5,7 @@ use mathlib.Core.List.{List, [], _∷_, _++_, append-nil}
 use Prim.Native.Nat.{ℕ, suc, _+_, _<_, _≤_}
 use native.Mathlib.Omega.{arith}
 use lib.ListN.{length, getD, take, drop, set, length-append, length-drop, drop-of-length-le}
-use lib.Seq.{sets, sets-eq, take-suc, take-all, length-take-le, take-append-seam, drop-append-add, drop-drop, getD-set-same, getD-set-other}
+use lib.Seq.{sets, sets-eq, take-suc, take-at, take-all, length-take-le, take-append-seam, drop-append-add, drop-drop, getD-set-same, getD-set-other}
 use lib.Dec.{eqb}
 use borrow.Author.Tests.{eqb-true, eqb-false}
 use Rattle.wording.specs.Codes.{atFront}
@@ -41,6 +41,10 @@ front-more front words all h =
 
 pub front-length : (front all : List ℕ) → length front ≤ length all → length (atFront front all) ≡ length all
 front-length front all h = omega (arith, length-append front (drop (length front) all), length-drop (length front) all)
+
+-- the front of an area, as it is read again
+pub front-again : (front before after : List ℕ) (n : ℕ) → after ≡ atFront front before → length front ≡ n → take n after ≡ front
+front-again front before after n e f = ap (take n) e ∙ take-at front _ n f
 
 -- what stands at a place after a store
 pub after-store : (l : List ℕ) (i v x : ℕ) → i < length l → getD (set l i v) x 0 ≡ cond (eqb i x) v (getD l x 0)
