@@ -9,20 +9,20 @@ use native.Mathlib.Nat.{eq-or-lt-of-le}
 use lib.ListN.{length, take, drop}
 use lib.Dec.{ltb}
 use borrow.Author.Tests.{ltb-true, lt-ltb}
-use Rattle.words.specs.Words.{Rule, Safe}
-use Rattle.words.specs.Book.{Book}
-use Rattle.layout.specs.Numbers.{Bytes}
-use Rattle.layout.specs.BookLayout.{entries, SoundBook}
-use Rattle.layout.specs.Contents.{count, entriesIn, offsetAt, lengthAt, partAt}
-use Rattle.layout.specs.Refusals.{mostAt, SoundEntry, Reached, Refusal, six, seven, eight, Loads, Passes, Reads}
-use Rattle.layout.proofs.Within.{part-lent}
-use Rattle.layout.proofs.BookUnique.{reads-unique, sound-exactly}
-use Rattle.subgoals.specs.declared.Fault.{Fault}
-use Rattle.subgoals.specs.declared.Fault.the-variants.{Count, Relation, Tag, Variable, Early, Over}
+use Rattle.spec.specs.Words.{Rule, Safe}
+use Rattle.spec.specs.Book.{Book}
+use Rattle.spec.specs.Numbers.{Bytes}
+use Rattle.spec.specs.BookLayout.{entries, SoundBook}
+use Rattle.spec.specs.Contents.{count, entriesIn, offsetAt, lengthAt, partAt}
+use Rattle.spec.specs.Refusals.{mostAt, SoundEntry, Reached, Refusal, six, seven, eight, Loads, Passes, Reads}
+use Rattle.spec.proofs.Bytes.Within.{part-lent}
+use Rattle.spec.proofs.Bytes.BookUnique.{reads-unique, sound-exactly}
+use Rattle.rules.specs.declared.subgoals.Fault.{Fault}
+use Rattle.rules.specs.declared.subgoals.Fault.the-variants.{Count, Relation, Tag, Variable, Early, Over}
 use Rattle.rules.specs.declared.Verdict.{Verdict}
 use Rattle.rules.specs.declared.Verdict.the-variants.{Sound, Broken, Unsafe, Repeats}
 use Rattle.rules.specs.Judged.{Judged, refusalNumber}
-use Rattle.books.specs.Says.{summaryAt}
+use Rattle.books.specs.Entries.{summaryAt}
 
 pub most-question : (i : ℕ) → i ≤ 1 → 12 ≡ mostAt i
 most-question zero h = refl

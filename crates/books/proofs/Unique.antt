@@ -2,12 +2,12 @@
 use mathlib.Core.Path.{_≡_, refl, sym, ap, ap₂, _∙_}
 use mathlib.Core.List.{List}
 use Prim.Native.Nat.{ℕ}
-use Rattle.layout.proofs.RefusedOnce.{refused-once}
-use Rattle.layout.proofs.Refused.{sound-unrefused}
-use Rattle.books.specs.declared.Reading.{Reading}
-use Rattle.books.specs.declared.Reading.the-variants.{Sound, Refused}
-use Rattle.books.specs.Says.{ReadingSays, ToldSays, toldOf}
-use Rattle.books.specs.declared.Told.{Told}
+use Rattle.spec.proofs.Bytes.RefusedOnce.{refused-once}
+use Rattle.spec.proofs.Bytes.Refused.{sound-unrefused}
+use Rattle.spec.specs.declared.Reading.{Reading}
+use Rattle.spec.specs.declared.Reading.the-variants.{Sound, Refused}
+use Rattle.spec.specs.Reading.{ReadingSays, ToldSays, toldOf}
+use Rattle.spec.specs.declared.Told.{Told}
 
 pub reading-once : (book : List ℕ) (r r′ : Reading) → ReadingSays book r → ReadingSays book r′ → r ≡ r′
 reading-once book Sound Sound a b = refl

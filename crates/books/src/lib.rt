@@ -1,25 +1,22 @@
 // A whole book of bytes: sound, or refused with 2 to 8.
 ghost use mathlib.Core.Path.{_≡_};
 ghost use Prim.Native.Nat.{_≤_, _<_};
-ghost use Rattle.layout.specs.Contents.{count, entriesIn, partAt};
-ghost use Rattle.layout.specs.Refusals.{Loads, mostAt};
+ghost use Rattle.spec.specs.Contents.{count, entriesIn, partAt};
+ghost use Rattle.spec.specs.Refusals.{Loads, mostAt};
 ghost use Rattle.rules.specs.Judged.{Judged, faultNumber, refusalNumber};
-ghost use Rattle.books.specs.Says.{ReadingSays, ToldSays, summaryAt, toldOf};
+ghost use Rattle.spec.specs.Reading.{ReadingSays, ToldSays, toldOf};
+ghost use Rattle.books.specs.Entries.{summaryAt};
 
 pub mod parts; // entries of a book that loads
 
-use contents::Loaded;
-use entries::fields::entries_of;
-use entries::fields::length_at;
-use entries::fields::offset_at;
+use spec::Loaded;
+use contents::fields::entries_of;
+use contents::fields::length_at;
+use contents::fields::offset_at;
 use rules::Fault;
 use rules::Verdict;
-
-// A sound book, or the refusal's number and place.
-pub enum Reading {
-    Sound,
-    Refused(u8, usize),
-}
+use spec::Reading;
+use spec::Told;
 
 // How many subgoals the rule of an entry may have: entry 1 is the question.
 fn most_at(i: usize) -> usize
@@ -96,13 +93,6 @@ pub fn read_book(book: &[u8]) -> Reading
         Loaded::Refused(k) => Reading::Refused(k, 0),
         Loaded::Good(n) => read_rules(book, n),
     }
-}
-
-// The same for callers in C: number 0 at place 0 is a sound book.
-#[repr(C)]
-pub struct Told {
-    pub number: u8,
-    pub place: usize,
 }
 
 fn tell(reading: Reading) -> Told

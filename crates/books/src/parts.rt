@@ -1,10 +1,10 @@
 // The parts of a book that loads: what a reader above asks for once the book is known to be sound.
 ghost use mathlib.Core.Path.{_≡_};
 ghost use Prim.Native.Nat.{_<_};
-ghost use Rattle.layout.specs.Contents.{entriesIn, partAt};
-ghost use Rattle.layout.specs.Refusals.{Loads};
-use entries::fields::length_at;
-use entries::fields::offset_at;
+ghost use Rattle.spec.specs.Contents.{entriesIn, partAt};
+ghost use Rattle.spec.specs.Refusals.{Loads};
+use contents::fields::length_at;
+use contents::fields::offset_at;
 
 // Entry i's own part. (`contents::entry` is the same for books that nobody has looked at.)
 pub fn part_of(book: &[u8], i: usize) -> &[u8]

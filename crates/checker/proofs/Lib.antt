@@ -1,3 +1,9 @@
+pub mod AdmissionLaws
+pub mod HeadLaws
+pub mod LayoutLaws
+pub mod LengthLaws
 pub mod Parts
-pub mod Yes
+pub mod RowLaws
+pub mod Says
 pub mod Unique
+pub mod Yes

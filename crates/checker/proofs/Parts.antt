@@ -7,19 +7,19 @@ use Prim.Native.Nat.{ℕ, _+_, _*_, _-_, _<_, _≤_}
 use native.Mathlib.Omega.{arith}
 use lib.ListN.{length, take, drop, length-append, length-drop, take-append-drop}
 use lib.Seq.{take-at, drop-at, take-all}
-use Rattle.words.specs.Words.{Term, Subgoal}
-use Rattle.words.specs.Summaries.{rewriting}
-use Rattle.words.specs.Answer.{There, Back}
-use Rattle.words.specs.Book.{Book, admittedOf}
-use Rattle.layout.specs.BookLayout.{SoundBook, questionMost}
-use Rattle.layout.specs.Contents.{partAt}
-use Rattle.layout.proofs.BookPasses.{question-reads}
-use Rattle.wording.specs.Promises.{GoalCount}
-use Rattle.promise.proofs.Rooms.{there-long}
-use Rattle.asking.specs.Question.{SomeSound}
-use Rattle.sending.specs.Told.{FewOf, Few}
-use Rattle.going.specs.Confirms.{ThereConfirms}
-use Rattle.confirming.specs.Confirms.{BackConfirms}
+use Rattle.spec.specs.Words.{Term, Subgoal}
+use Rattle.spec.specs.Summaries.{rewriting}
+use Rattle.spec.specs.Answer.{There, Back}
+use Rattle.spec.specs.Book.{Book, admittedOf}
+use Rattle.spec.specs.BookLayout.{SoundBook, questionMost}
+use Rattle.spec.specs.Contents.{partAt}
+use Rattle.spec.proofs.Bytes.BookPasses.{question-reads}
+use Rattle.rule_codes.specs.Promises.{GoalCount}
+use Rattle.outcomes.proofs.Rooms.{there-long}
+use Rattle.book_codes.specs.Question.{SomeSound}
+use Rattle.book_codes.specs.FewRows.{FewOf, Few}
+use Rattle.witness_check.specs.WayThere.Confirms.{ThereConfirms}
+use Rattle.witness_check.specs.WayBack.Confirms.{BackConfirms}
 use Rattle.bits.proofs.Laws.{exactly-no}
 use Rattle.checker.specs.Steps.{QuestionGoals, Witness, Confirms}
 

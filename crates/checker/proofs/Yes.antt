@@ -5,26 +5,26 @@ use mathlib.Core.List.{List}
 use Prim.Native.Nat.{ℕ, _*_, _≤_}
 use native.Mathlib.Omega.{arith}
 use lib.ListN.{length}
-use Rattle.words.specs.Words.{Rule}
-use Rattle.words.specs.Summaries.{orEmpty, rewriting}
-use Rattle.words.specs.Answer.{There, Back}
-use Rattle.words.specs.Book.{Book, admittedOf}
-use Rattle.layout.specs.BookLayout.{SoundBook, questionMost}
-use Rattle.layout.specs.Refusals.{Refusal}
-use Rattle.layout.proofs.BookUnique.{book-unique}
-use Rattle.layout.proofs.Refused.{sound-unrefused}
-use Rattle.coding.specs.Code.{termCode, wordsOf}
-use Rattle.wording.proofs.WordLaws.{words-length}
-use Rattle.asking.specs.Question.{SomeSound}
-use Rattle.wording.proofs.Stores.{front-again}
-use Rattle.books.specs.Says.{ReadingSays}
-use Rattle.books.specs.declared.Reading.{Reading}
-use Rattle.books.specs.declared.Reading.the-variants.{Sound, Refused}
-use Rattle.sending.specs.Told.{FewOf, Few}
-use Rattle.truth.specs.Truth.{RewritingRule, Truth, Checks}
-use Rattle.truth.proofs.AsRule.{rule-once}
-use Rattle.proposed.specs.Proposed.{IsProposed, Proposed, empty}
-use Rattle.proposed.specs.declared.Proposal.{Proposal}
+use Rattle.spec.specs.Words.{Rule}
+use Rattle.spec.specs.Summaries.{orEmpty, rewriting}
+use Rattle.spec.specs.Answer.{There, Back}
+use Rattle.spec.specs.Book.{Book, admittedOf}
+use Rattle.spec.specs.BookLayout.{SoundBook, questionMost}
+use Rattle.spec.specs.Refusals.{Refusal}
+use Rattle.spec.proofs.Bytes.BookUnique.{book-unique}
+use Rattle.spec.proofs.Bytes.Refused.{sound-unrefused}
+use Rattle.codes.specs.Code.{termCode, wordsOf}
+use Rattle.rule_codes.proofs.WordLaws.{words-length}
+use Rattle.book_codes.specs.Question.{SomeSound}
+use Rattle.rule_codes.proofs.Stores.{front-again}
+use Rattle.spec.specs.Reading.{ReadingSays}
+use Rattle.spec.specs.declared.Reading.{Reading}
+use Rattle.spec.specs.declared.Reading.the-variants.{Sound, Refused}
+use Rattle.book_codes.specs.FewRows.{FewOf, Few}
+use Rattle.spec.specs.Truth.{RewritingRule, Truth, Checks}
+use Rattle.outcomes.proofs.AsRule.{rule-once}
+use Rattle.checker.specs.Proposed.{IsProposed, Proposed, empty}
+use Rattle.checker.specs.declared.proposal.Proposal.{Proposal}
 use Rattle.bits.proofs.Laws.{exactly-no}
 use Rattle.checker.specs.Steps.{Witness, Confirms}
 

@@ -5,12 +5,12 @@ use mathlib.Core.Logic.{_↔_}
 use mathlib.Core.List.{List, _++_}
 use Prim.Native.Nat.{ℕ}
 use lib.ListN.{length}
-use Rattle.words.specs.Words.{Term, Subgoal}
-use Rattle.words.specs.Summaries.{rewriting}
-use Rattle.words.specs.Answer.{There, Back}
-use Rattle.words.specs.Book.{Book, admittedOf}
-use Rattle.layout.specs.BookLayout.{SoundBook}
-use Rattle.sending.specs.Told.{FewOf}
+use Rattle.spec.specs.Words.{Term, Subgoal}
+use Rattle.spec.specs.Summaries.{rewriting}
+use Rattle.spec.specs.Answer.{There, Back}
+use Rattle.spec.specs.Book.{Book, admittedOf}
+use Rattle.spec.specs.BookLayout.{SoundBook}
+use Rattle.book_codes.specs.FewRows.{FewOf}
 
 pub record QuestionGoals (book : List ℕ) (n : ℕ) : Type 0 where
   pub is : (b : Book) → SoundBook book b → n ≡ length (b .question .body)

@@ -1,15 +1,20 @@
 // The checker: a book, a rewriting and a witness, each as bytes. It writes nothing, and searches for nothing.
-ghost use Rattle.asking.specs.Question.{SomeSound};
-ghost use Rattle.sending.specs.Told.{Few};
-ghost use Rattle.truth.specs.Truth.{Checks};
+ghost use Rattle.book_codes.specs.Question.{SomeSound};
+ghost use Rattle.book_codes.specs.FewRows.{Few};
+ghost use Rattle.spec.specs.Truth.{Checks};
 ghost use Rattle.checker.specs.Steps.{QuestionGoals, Confirms};
-use books::Reading;
+
+mod head_lengths; // how long the summaries' heads are
+mod proposal; // the rewriting that is given, read as rows
+mod tests; // layout, head, admission
+
+use spec::Reading;
 use books::parts::part_of;
 use books::read_book;
-use confirming::back::comes_back;
-use going::goes_there;
-use proposed::propose;
-use wording::places::goal_count;
+use witness_check::back::comes_back;
+use witness_check::there::goes_there;
+use crate::proposal::propose;
+use rule_codes::places::goal_count;
 
 // How many subgoals the question of a sound book has.
 fn question_goals(book: &[u8]) -> usize

@@ -2,11 +2,11 @@
 use mathlib.Core.Path.{_≡_, subst}
 use mathlib.Core.List.{List}
 use Prim.Native.Nat.{ℕ}
-use Rattle.layout.specs.Contents.{count}
-use Rattle.layout.specs.Refusals.{Loads, Refusal}
-use Rattle.contents.specs.Loading.{LoadSays}
-use Rattle.contents.specs.declared.Loaded.{Loaded}
-use Rattle.contents.specs.declared.Loaded.the-variants.{Good, Refused}
+use Rattle.spec.specs.Contents.{count}
+use Rattle.spec.specs.Refusals.{Loads, Refusal}
+use Rattle.spec.specs.Loading.{LoadSays}
+use Rattle.spec.specs.declared.Loaded.{Loaded}
+use Rattle.spec.specs.declared.Loaded.the-variants.{Good, Refused}
 
 pub good : (book : List ℕ) (n : ℕ) (r : Loaded) → r ≡ Good n → LoadSays book r → Loads book × (n ≡ count book)
 good book n r e = subst (LoadSays book) e

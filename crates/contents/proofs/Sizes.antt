@@ -5,8 +5,8 @@ use mathlib.Core.List.{List}
 use Prim.Native.Nat.{ℕ, _<_, _≤_}
 use native.Mathlib.Omega.{arith}
 use lib.ListN.{length}
-use Rattle.layout.specs.Contents.{count}
-use Rattle.layout.specs.Refusals.{longest, Fault2, Refusal, two, three}
+use Rattle.spec.specs.Contents.{count}
+use Rattle.spec.specs.Refusals.{longest, Fault2, Refusal, two, three}
 
 module _ (book : List ℕ) where
   pub too-short : length book < 2 → Refusal book 2 0

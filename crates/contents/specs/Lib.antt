@@ -1,2 +1,2 @@
-pub mod Loading
-pub mod EntryPart
+pub mod Entries
+pub mod Records

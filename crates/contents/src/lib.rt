@@ -1,23 +1,25 @@
 // The contents of a book: loaded, or refused with 2 to 5; and each entry's own part of the book.
-ghost use Rattle.contents.specs.Loading.{LoadSays};
-ghost use Rattle.contents.specs.EntryPart.{EntryPart};
-use entries::Step;
-use entries::fields::count_of;
-use entries::fields::entries_of;
-use entries::fields::length_at;
-use entries::fields::offset_at;
-use entries::gaps::no_gaps;
-use relations::right_relations;
+ghost use Rattle.spec.specs.Loading.{LoadSays};
+ghost use Rattle.spec.specs.EntryPart.{EntryPart};
+
+pub mod fields; // count, offset, length and stamp, as numbers
+mod gaps; // the rule of no gaps
+mod relations; // entry 0
+mod steps; // what a step of the loading answers
+pub mod table; // the contents as records in a lent table
+
+use crate::steps::Step;
+use crate::fields::count_of;
+use crate::fields::entries_of;
+use crate::fields::length_at;
+use crate::fields::offset_at;
+use crate::gaps::no_gaps;
+use crate::relations::right_relations;
+use spec::Loaded;
 
 const LONGEST: usize = 25040;
 
 const MOST_SUMMARIES: usize = 64;
-
-// The count of summaries, or the refusal's number.
-pub enum Loaded {
-    Good(usize),
-    Refused(u8),
-}
 
 pub fn load(book: &[u8]) -> Loaded
     ensures { λ r. ⌜ LoadSays (now (book .entry)) r ⌝ }

@@ -14,11 +14,11 @@ fn main() {
     let mut word = [0u8; 8];
     let n = os::arg(1, &mut word);
     if os::arg_count() == 4 {
-        files::judge_files();
+        crate::files::judge_files();
     } else if same(&word[..n], b"many") {
-        stream::judge_many(false);
+        crate::stream::judge_many(false);
     } else if same(&word[..n], b"repeat") {
-        stream::judge_many(true);
+        crate::stream::judge_many(true);
     } else {
         io::write_all(STDERR_FILENO, b"usage: judge BOOK REWRITING WITNESS\n");
     }

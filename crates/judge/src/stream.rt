@@ -15,8 +15,8 @@ use crate::rooms::print_answer;
 fn take(room: &mut [u8], size: u64) -> usize
     ensures { λ r. ⌜ Counts r (now (room .exit)) ⌝ }
 {
-    let n = input::fill(room, size);
-    input::pass(size - n as u64);
+    let n = console::input::fill(room, size);
+    console::input::pass(size - n as u64);
     n
 }
 
@@ -45,12 +45,12 @@ fn check_times(book: &mut [u8], n: usize, rewriting: &[u8], witness: &[u8], time
 fn judge_next(is_repeated: bool) -> bool {
     let mut times: u64 = 1;
     if is_repeated {
-        times = input::size();
+        times = console::input::size();
     }
-    let book_size = input::size();
-    let rewriting_size = input::size();
-    let witness_size = input::size();
-    if witness_size == input::NO_MORE {
+    let book_size = console::input::size();
+    let rewriting_size = console::input::size();
+    let witness_size = console::input::size();
+    if witness_size == console::input::NO_MORE {
         return false;
     }
     let mut book = [0u8; BOOK];

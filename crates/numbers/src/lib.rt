@@ -2,7 +2,7 @@
 ghost use mathlib.Core.Path.{_≡_};
 ghost use Prim.Native.Nat.{_+_, _≤_, _<_};
 ghost use lib.ListN.{length};
-ghost use Rattle.layout.specs.Numbers.{numberAt};
+ghost use Rattle.spec.specs.Numbers.{numberAt};
 
 // A byte as a wider number, with its bound.
 fn short(x: u8) -> u16

@@ -9,26 +9,28 @@ use native.Mathlib.Decide.{ℕ-discrete, decLt}
 use native.Mathlib.Numerals.{add-one}
 use lib.ListN.{length, getD, set, replicate}
 use Rattle.bits.specs.Sets.{Has, with}
-use Rattle.words.specs.Order.{ListBefore, First}
-use Rattle.slots.specs.Task.{Task, goals, targets, targetRelation, sourceRelation, widthOf, lastOf, rowOf, Completes, done}
-use Rattle.slots.specs.Taking.{Enters, leftAfter, Affords, Open}
-use Rattle.placing.specs.Mapped.{laid}
-use Rattle.outlook.specs.Failure.{AgreesOn, Failed}
-use Rattle.placing.specs.Answer.{Completion, Afforded, Answer}
-use Rattle.slots.specs.Steps.{Opened, Entering, Hopeless, Settled, entering, seeing}
+use Rattle.spec.specs.Order.{ListBefore, First}
+use Rattle.task.specs.Task.{Task, goals, targets, targetRelation, sourceRelation, widthOf, lastOf, rowOf, Completes, done}
+use Rattle.lookahead.specs.Taking.{Enters, leftAfter, Affords, Open}
+use Rattle.placing.specs.FirstPlaces.{laid}
+use Rattle.lookahead.specs.Failure.{AgreesOn, Failed}
+use Rattle.placing.specs.Answer.{Afforded, Answer}
+use Rattle.task.specs.Completion.{Completion}
+use Rattle.lookahead.specs.Steps.{Entering, Hopeless, Settled, entering, seeing}
+use Rattle.task.specs.Terms.{Opened}
 use Rattle.placing.specs.Steps.{carrying, found, failed}
-use Rattle.outlook.specs.Seen.{Outlooks}
-use Rattle.slots.specs.declared.Reasons.{Reasons}
+use Rattle.lookahead.specs.Seen.{Outlooks}
+use Rattle.lookahead.specs.declared.reasons.Reasons.{Reasons}
 use Rattle.placing.specs.declared.Placed.{Placed}
-use Rattle.slots.specs.declared.Rows.{Rows}
-use Rattle.slots.specs.declared.Entered.{Entered}
-use Rattle.outlook.specs.declared.Outlook.{Outlook}
-use Rattle.placing.proofs.Guess.{Guess}
+use Rattle.lookahead.specs.declared.reasons.Rows.{Rows}
+use Rattle.lookahead.specs.declared.reasons.Entered.{Entered}
+use Rattle.lookahead.specs.declared.Outlook.{Outlook}
+use Rattle.task.proofs.Guess.{Guess}
 use Rattle.placing.proofs.Open.{open-with, open-tail, affords-open}
-use Rattle.outlook.proofs.Taken.{affords-free}
+use Rattle.lookahead.proofs.Taken.{affords-free}
 use Rattle.placing.proofs.Laid.{laid-none, laid-put}
-use Rattle.placing.proofs.Crossing.{carry}
-use Rattle.placing.proofs.Onward.{step, after, onward}
+use Rattle.placing.proofs.ReasonsCarried.{carry}
+use Rattle.task.proofs.Onward.{step, after, onward}
 use Rattle.placing.proofs.Refuted.{Way, Refuted}
 
 module _ (p : Task) (at : ℕ) (b : List ℕ) (rows : Rows) (more : at < goals p) where

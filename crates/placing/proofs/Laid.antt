@@ -4,7 +4,7 @@ use mathlib.Core.List.{List, [], _∷_, _++_}
 use Prim.Native.Nat.{ℕ, zero, suc, _+_, _-_, _<_, _≤_}
 use native.Mathlib.Omega.{arith}
 use lib.ListN.{length, set, replicate}
-use Rattle.placing.specs.Mapped.{laid}
+use Rattle.placing.specs.FirstPlaces.{laid}
 
 zeros : (m n : ℕ) → _≡_ {A = List ℕ} (replicate m 0 ++ replicate n 0) (replicate (m + n) 0)
 zeros zero n = let e : 0 + n ≡ n = omega arith in rw e

@@ -1,11 +1,7 @@
-pub mod Slots
-pub mod Guess
-pub mod Open
-pub mod Crossing
-pub mod Onward
-pub mod Refuted
-pub mod Laid
 pub mod Answered
-pub mod Chain
-pub mod Verdicts
+pub mod Laid
+pub mod Open
+pub mod ReasonsCarried
+pub mod Refuted
 pub mod Unique
+pub mod Verdicts

@@ -5,9 +5,9 @@ use mathlib.Core.List.{List, [], _∷_, List·Memᴰ·head, List·Memᴰ·tail, 
 use Prim.Native.Nat.{ℕ}
 use Rattle.bits.specs.Sets.{Has, with}
 use Rattle.bits.proofs.Laws.{with-old, with-cases}
-use Rattle.words.specs.Words.{_∈_}
-use Rattle.slots.specs.Task.{Task, rowOf}
-use Rattle.slots.specs.Taking.{Enters, leftAfter, Affords, Open}
+use Rattle.spec.specs.Words.{_∈_}
+use Rattle.task.specs.Task.{Task, rowOf}
+use Rattle.lookahead.specs.Taking.{Enters, leftAfter, Affords, Open}
 
 -- one row more in use shuts nothing
 pub open-with : (p : Task) (used may row : ℕ) (l : List ℕ) → Open p used may l → Open p (with used row) may l

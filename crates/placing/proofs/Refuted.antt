@@ -9,17 +9,18 @@ use native.Mathlib.Decide.{decLt}
 use lib.ListN.{length, getD, List·getD-eq-default}
 use Rattle.bits.specs.Sets.{Has}
 use Rattle.bits.proofs.Laws.{or-left, or-right}
-use Rattle.slots.specs.Task.{Task, goals, targetRelation, sourceRelation, sourceTerm, targetTerm, widthOf, lastOf, rowOf, Agrees, Linked, Completes}
-use Rattle.slots.specs.Taking.{Affords, Open}
-use Rattle.outlook.specs.Failure.{AgreesOn, Failed}
-use Rattle.slots.specs.Steps.{stood, blaming, shorting, joining, seeing, entering, Opened, Entering}
-use Rattle.slots.specs.declared.Reasons.{Reasons}
-use Rattle.slots.specs.declared.Rows.{Rows}
-use Rattle.slots.specs.declared.Entered.{Entered}
-use Rattle.slots.proofs.Slots.{stood-value, noting-new, noting-old}
-use Rattle.placing.proofs.Guess.{Guess, TermsAgree, guess-known}
+use Rattle.task.specs.Task.{Task, goals, targetRelation, sourceRelation, sourceTerm, targetTerm, widthOf, lastOf, rowOf, Agrees, Linked, Completes}
+use Rattle.lookahead.specs.Taking.{Affords, Open}
+use Rattle.lookahead.specs.Failure.{AgreesOn, Failed}
+use Rattle.lookahead.specs.Steps.{blaming, shorting, joining, seeing, entering, Entering}
+use Rattle.task.specs.Terms.{stood, Opened}
+use Rattle.lookahead.specs.declared.reasons.Reasons.{Reasons}
+use Rattle.lookahead.specs.declared.reasons.Rows.{Rows}
+use Rattle.lookahead.specs.declared.reasons.Entered.{Entered}
+use Rattle.task.proofs.Slots.{stood-value, noting-new, noting-old}
+use Rattle.task.proofs.Guess.{Guess, TermsAgree, guess-known}
 use Rattle.placing.proofs.Open.{open-with, open-tail}
-use Rattle.placing.proofs.Crossing.{carry}
+use Rattle.placing.proofs.ReasonsCarried.{carry}
 
 -- a way on from the source subgoal at, over the target k, that the reasons do not rule out
 pub record Way (p : Task) (at : ℕ) (b : List ℕ) (rows : Rows) (why : Reasons) (k : ℕ) : Type 0 where

@@ -8,19 +8,21 @@ use native.Mathlib.Omega.{arith}
 use lib.ListN.{replicate}
 use Rattle.bits.specs.Sets.{Has}
 use Rattle.bits.proofs.Laws.{all-has}
-use Rattle.words.specs.Order.{ListBefore, First}
-use Rattle.slots.specs.Task.{Task, Sized, rowOf}
-use Rattle.slots.specs.Taking.{Affords}
-use Rattle.placing.specs.Mapped.{Mapped, laid, FirstPlaces, Feasible, Enough}
-use Rattle.placing.specs.Answer.{Completion, Afforded, Answer, PlacesFrom}
-use Rattle.slots.specs.Steps.{rowsOf}
-use Rattle.slots.specs.declared.Rows.{Rows}
+use Rattle.spec.specs.Order.{ListBefore, First}
+use Rattle.task.specs.Task.{Task, Sized, rowOf}
+use Rattle.lookahead.specs.Taking.{Affords}
+use Rattle.placing.specs.FirstPlaces.{laid, FirstPlaces, Enough}
+use Rattle.task.specs.Mapped.{Mapped, Feasible}
+use Rattle.placing.specs.Answer.{Afforded, Answer, PlacesFrom}
+use Rattle.task.specs.Completion.{Completion}
+use Rattle.lookahead.specs.Steps.{rowsOf}
+use Rattle.lookahead.specs.declared.reasons.Rows.{Rows}
 use Rattle.placing.specs.declared.Placed.{Placed}
 use Rattle.placing.specs.declared.Places.{Places}
 use Rattle.placing.proofs.Open.{affords-open, affords-used}
-use Rattle.outlook.proofs.Taken.{rows-affords, affords-rows}
+use Rattle.lookahead.proofs.Taken.{rows-affords, affords-rows}
 use Rattle.placing.proofs.Laid.{laid-none}
-use Rattle.placing.proofs.Chain.{completion-mapped, mapped-completion}
+use Rattle.task.proofs.Chain.{completion-mapped, mapped-completion}
 
 -- the first of the one is the first of the other, where both say the same
 first-alike : {A : Type 0} {P Q : A → Type 0} {Before : A → A → Type 0} → ((a : A) → P a → Q a) → ((a : A) → Q a → P a) → (a : A) → First P Before a → First Q Before a

@@ -2,21 +2,16 @@
 use mathlib.Core.Bool.{true, false}
 use mathlib.Core.Path.{_≡_}
 use mathlib.Core.List.{List}
-use Prim.Native.Nat.{ℕ, _-_, _<_}
-use Rattle.words.specs.Order.{ListBefore, First}
-use Rattle.slots.specs.Task.{Task, goals, Completes, Extends}
-use Rattle.slots.specs.Taking.{Affords}
-use Rattle.slots.specs.declared.Rows.{Rows}
-use Rattle.outlook.specs.Failure.{Failed}
-use Rattle.placing.specs.Mapped.{laid, FirstOf}
+use Prim.Native.Nat.{ℕ, _<_}
+use Rattle.spec.specs.Order.{ListBefore, First}
+use Rattle.task.specs.Task.{Task}
+use Rattle.lookahead.specs.Taking.{Affords}
+use Rattle.lookahead.specs.declared.reasons.Rows.{Rows}
+use Rattle.lookahead.specs.Failure.{Failed}
+use Rattle.placing.specs.FirstPlaces.{laid, FirstOf}
 use Rattle.placing.specs.declared.Placed.{Placed}
 use Rattle.placing.specs.declared.Places.{Places}
-
--- l completes the bindings b: the places of all source subgoals from at on
-pub record Completion (p : Task) (at : ℕ) (b : List ℕ) (l : List ℕ) : Type 0 where
-  pub val : ℕ → ℕ
-  pub extends : Extends b val
-  pub completes : Completes p (goals p - at) at val l
+use Rattle.task.specs.Completion.{Completion}
 
 -- .. and the rows allow it
 pub record Afforded (p : Task) (at : ℕ) (b : List ℕ) (rows : Rows) (l : List ℕ) : Type 0 where

@@ -1,5 +1,3 @@
-pub mod Task
-pub mod Taking
-pub mod Mapped
 pub mod Answer
+pub mod FirstPlaces
 pub mod Steps

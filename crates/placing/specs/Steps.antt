@@ -1,11 +1,9 @@
--- What the small steps of the search make: of its answers, and, passed on to the crates above, of terms and slots.
+-- What the small steps of the search make of its answers.
 use mathlib.Core.Bool.{true, false}
 use Prim.Native.Nat.{ℕ}
 use lib.ListN.{set, replicate}
-pub use Rattle.slots.specs.Steps.{Opened}
-unfoldable pub use Rattle.slots.specs.Steps.{stood, noting}
-use Rattle.slots.specs.Steps.{seeing, noReasons}
-use Rattle.slots.specs.declared.Reasons.{Reasons}
+use Rattle.lookahead.specs.Steps.{seeing, noReasons}
+use Rattle.lookahead.specs.declared.reasons.Reasons.{Reasons}
 use Rattle.placing.specs.declared.Placed.{Placed}
 
 abbrev pub carrying : Placed → ℕ → ℕ → ℕ → Placed

@@ -3,26 +3,26 @@
 ghost use mathlib.Core.Path.{_≡_};
 ghost use Prim.Native.Nat.{_<_, _≤_};
 ghost use lib.ListN.{length};
-ghost use Rattle.slots.specs.Task.{posed, Sized};
-ghost use Rattle.placing.specs.Mapped.{FirstPlaces, Enough};
+ghost use Rattle.task.specs.Task.{posed, Sized};
+ghost use Rattle.placing.specs.FirstPlaces.{FirstPlaces, Enough};
 ghost use Rattle.placing.specs.Answer.{Answer, PlacesFrom};
 ghost use Rattle.placing.specs.Steps.{carrying, found, failed};
-use slots::Reasons;
-use slots::Rows;
-use slots::blamed;
-use slots::enters;
-use slots::joined;
-use slots::no_reasons;
-use slots::noted;
-use slots::rows_of;
-use slots::seen;
-use slots::settled;
-use slots::shorted;
+use lookahead::reasons::Reasons;
+use lookahead::reasons::Rows;
+use lookahead::reasons::blamed;
+use lookahead::reasons::enters;
+use lookahead::reasons::joined;
+use lookahead::reasons::no_reasons;
+use task::terms::noted;
+use lookahead::reasons::rows_of;
+use lookahead::reasons::seen;
+use lookahead::reasons::settled;
+use lookahead::reasons::shorted;
 // what is asked of terms and bindings is asked of this crate, by those above too
-pub use slots::alike;
-pub use slots::opened;
-pub use slots::stands;
-pub use slots::width;
+use task::terms::alike;
+use task::terms::opened;
+use task::terms::stands;
+use task::terms::width;
 
 // The places of the source subgoals, or that there are none.
 pub struct Places {
@@ -93,7 +93,7 @@ fn place(
     if widths.len() <= at {
         return whole();
     }
-    let seen = outlook::look(source, widths, lasts, target, own, at, b, rows);
+    let seen = lookahead::look(source, widths, lasts, target, own, at, b, rows);
     if seen.vain {
         return none(seen.why);
     }

@@ -19,7 +19,7 @@ fn pattern(area: &mut [u8], first: u8) {
 }
 
 fn print_told(told: Told) {
-    showing::print_four(
+    console::print_four(
         told.number as u64,
         told.place as u64,
         told.answer as u64,

@@ -13,7 +13,7 @@ mod told; // what the rewriter answered, as numbers
 
 use check::same;
 use libc::STDIN_FILENO;
-use outcome::print_outcome;
+use crate::outcome::print_outcome;
 
 // One byte more than the longest sound book: what a book has past that changes nothing, it is
 // refused with 2.
@@ -35,7 +35,7 @@ enum Form {
 // How often the next book is rewritten: where that is asked for, it stands before the book.
 fn times_of(form: Form) -> u64 {
     match form {
-        Form::Repeated => input::size(),
+        Form::Repeated => console::input::size(),
         _ => 1,
     }
 }
@@ -43,22 +43,22 @@ fn times_of(form: Form) -> u64 {
 fn print_one(form: Form, times: u64, book: &[u8]) {
     match form {
         Form::Listing => print_outcome(book, false),
-        Form::Areas => areas::print_areas(book),
-        Form::Repeated => repeat::print_last(book, times),
+        Form::Areas => crate::areas::print_areas(book),
+        Form::Repeated => crate::repeat::print_last(book, times),
     }
 }
 
 // The next of many books; answers whether there was one.
 fn next_book(form: Form) -> bool {
     let times = times_of(form);
-    let size = input::size();
-    if size == input::NO_MORE {
+    let size = console::input::size();
+    if size == console::input::NO_MORE {
         return false;
     }
     let mut book = [0u8; ROOM];
-    let n = input::fill(&mut book, size);
+    let n = console::input::fill(&mut book, size);
     print_one(form, times, &book[..n]);
-    input::pass(size - n as u64);
+    console::input::pass(size - n as u64);
     true
 }
 

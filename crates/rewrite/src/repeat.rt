@@ -3,8 +3,8 @@
 // soon as it is known, so that whoever reads them can take the time of each book.
 use crate::told::Told;
 use crate::told::tell;
-use showing::print_lengths;
-use showing::print_refusal;
+use console::print_lengths;
+use console::print_refusal;
 
 fn once(book: &[u8]) -> Told {
     let mut answer = [0u8; 534];

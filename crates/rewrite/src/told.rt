@@ -1,5 +1,5 @@
 // What the rewriter answered of a book, as numbers.
-use rewriter::Outcome;
+use spec::Outcome;
 use rewriter::rewrite;
 
 // The refusal's number and place, 0 and 0 where there is none; the lengths of answer and witness, 0 and

@@ -1,3 +1,2 @@
 pub mod RefusedLaws
 pub mod Unique
-pub mod Demand

@@ -6,25 +6,25 @@ use mathlib.Core.List.{List}
 use Prim.Native.Nat.{ℕ, _*_, _<_, _≤_}
 use native.Mathlib.Omega.{arith}
 use lib.ListN.{length, drop}
-use Rattle.words.specs.Rows.{allRows}
-use Rattle.words.specs.Book.{Book, admittedOf}
-use Rattle.layout.specs.BookLayout.{SoundBook}
-use Rattle.layout.specs.Refusals.{Refusal}
-use Rattle.listing.specs.Listing.{Sought, AllStand, TooMany, ListedSays, Listing}
-use Rattle.listing.specs.declared.Listed.{Listed}
-use Rattle.listing.specs.declared.Listed.the-variants.{All, Over}
-use Rattle.books.specs.Says.{ReadingSays}
-use Rattle.books.specs.declared.Reading.{Reading}
-use Rattle.books.specs.declared.Reading.the-variants.{Sound, Refused as RefusedWith}
-use Rattle.promise.specs.Table.{Fault1, Fault9, Fault10, Refused, one, read, nine, ten, answerRoom, witnessRoom, mostRows}
-use Rattle.promise.proofs.Grants.{value-safe}
-use Rattle.promise.proofs.Total.{fault-9}
-use Rattle.choosing.specs.Chosen.{ChosenBy, Found, NotFound}
-use Rattle.choosing.specs.declared.Chosen.{Chosen}
-use Rattle.posing.specs.Asked.{AskedOf, Asked, RowsChosen}
-use Rattle.rewriter.specs.Rewriting.{TurnedDown}
-use Rattle.putting.specs.Steps.{ChosenPut}
-use Rattle.putting.proofs.ChosenLaws.{few-rows}
+use Rattle.spec.proofs.Decided.Rows.{allRows}
+use Rattle.spec.specs.Book.{Book, admittedOf}
+use Rattle.spec.specs.BookLayout.{SoundBook}
+use Rattle.spec.specs.Refusals.{Refusal}
+use Rattle.row_list.specs.Listing.{Sought, AllStand, TooMany, ListedSays, Listing}
+use Rattle.row_list.specs.declared.Listed.{Listed}
+use Rattle.row_list.specs.declared.Listed.the-variants.{All, Over}
+use Rattle.spec.specs.Reading.{ReadingSays}
+use Rattle.spec.specs.declared.Reading.{Reading}
+use Rattle.spec.specs.declared.Reading.the-variants.{Sound, Refused as RefusedWith}
+use Rattle.spec.specs.Table.{Fault1, Fault9, Fault10, Refused, one, read, nine, ten, answerRoom, witnessRoom, mostRows}
+use Rattle.outcomes.proofs.Grants.{value-safe}
+use Rattle.outcomes.proofs.Total.{fault-9}
+use Rattle.first_shortest.specs.Chosen.{ChosenBy, Found, NotFound}
+use Rattle.first_shortest.specs.declared.Chosen.{Chosen}
+use Rattle.row_choice.specs.Asked.{AskedOf, Asked, RowsChosen}
+use Rattle.spec.specs.Rewriting.{TurnedDown}
+use Rattle.answer.specs.Steps.{ChosenPut}
+use Rattle.answer.proofs.ChosenLaws.{few-rows}
 use Rattle.rewriter.specs.Steps.{Sounds, Rowed}
 
 pub turned-down : {book a w : List ℕ} {k p : ℕ} → Refused book (length a) (length w) k p → TurnedDown book a a w w k p

@@ -1,10 +1,10 @@
 -- What is known between the steps of rewriting a book.
 use mathlib.Core.List.{List}
 use Prim.Native.Nat.{ℕ}
-use Rattle.words.specs.Book.{Book}
-use Rattle.layout.specs.BookLayout.{SoundBook}
-use Rattle.promise.specs.Table.{Fault1}
-use Rattle.posing.specs.Asked.{Asked}
+use Rattle.spec.specs.Book.{Book}
+use Rattle.spec.specs.BookLayout.{SoundBook}
+use Rattle.spec.specs.Table.{Fault1}
+use Rattle.row_choice.specs.Asked.{Asked}
 
 -- A sound book, and the areas are long enough.
 pub record Sounds (book : List ℕ) (answer witness : ℕ) : Type 0 where

@@ -1,19 +1,14 @@
 // A book of bytes rewritten: the answer and its witness in two lent areas, or the refusal.
 ghost use lib.ListN.{length};
-ghost use Rattle.rewriter.specs.Rewriting.{Rewriting};
+ghost use Rattle.spec.specs.Rewriting.{Rewriting};
 ghost use Rattle.rewriter.specs.Steps.{Sounds, Rowed};
-use books::Reading;
+use spec::Reading;
 use books::read_book;
-use listing::Listed;
-use listing::list_rows;
-use posing::choose_rows;
-use putting::put_chosen;
-
-// The lengths of answer and witness; or the refusal's number and place.
-pub enum Outcome {
-    Done(usize, usize),
-    Refused(u8, usize),
-}
+use row_list::Listed;
+use row_list::list_rows;
+use row_choice::choose_rows;
+use answer::put_chosen;
+use spec::Outcome;
 
 // Over all n rows: 10 where no list of them will do.
 fn rewrite_rows(

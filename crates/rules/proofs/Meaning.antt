@@ -5,11 +5,11 @@ use mathlib.Core.Bool.{Bool, true, false, _&&_, not}
 use mathlib.Core.List.{List, [], _∷_, List·Memᴰ·head, List·Memᴰ·tail, List·Memᴰ·not-nil}
 use Prim.Native.Nat.{ℕ}
 use native.Mathlib.Omega.{arith}
-use Rattle.words.specs.Words.{_∈_, Term, var, con, Subgoal, Rule, Safe, DistinctVariables}
+use Rattle.spec.specs.Words.{_∈_, Term, var, con, Subgoal, Rule, Safe, DistinctVariables}
 use Rattle.bits.specs.Sets.{Has, has, with}
 use Rattle.bits.proofs.Laws.{has-none, has-true, true-has, with-new, with-old, with-cases}
-use Rattle.subgoals.specs.declared.Marks.{Marks}
-use Rattle.subgoals.specs.Marked.{none, mark, marks, ofGoal, goalMarks}
+use Rattle.rules.specs.declared.subgoals.Marks.{Marks}
+use Rattle.rules.specs.Marked.{none, mark, marks, ofGoal, goalMarks}
 
 -- one term
 mark-keeps : (m : Marks) (t : Term ℕ) (x : ℕ) → Has (m .vars) x → Has (mark m t .vars) x

@@ -7,20 +7,20 @@ use native.Mathlib.Omega.{arith}
 use lib.ListN.{length, getD, drop, length-drop}
 use lib.Dec.{leb, ltb}
 use borrow.Author.Tests.{lt-ltb, le-ltb, le-leb, lt-leb}
-use Rattle.words.specs.Words.{Term, Subgoal, Rule}
-use Rattle.layout.specs.Reading.{Read, got, bad, badCount, early, over, andThen, readTerm, readMany, readSubgoal, asRule, readBody, readHead, readGoals, readRule}
-use Rattle.layout.proofs.Tails.{end-place, tails-many, tails-term, tails-subgoal}
-use Rattle.subgoals.specs.declared.Fault.{Fault}
-use Rattle.subgoals.specs.declared.Fault.the-variants.{Count, Early, Over}
-use Rattle.subgoals.specs.declared.Marks.{Marks}
-use Rattle.subgoals.specs.declared.Step.{Step}
-use Rattle.subgoals.specs.declared.Step.the-variants.{Next}
-use Rattle.subgoals.specs.declared.Step.the-variants as step
+use Rattle.spec.specs.Words.{Term, Subgoal, Rule}
+use Rattle.spec.proofs.Bytes.RuleReading.{Read, got, bad, badCount, early, over, andThen, readTerm, readMany, readSubgoal, asRule, readBody, readHead, readGoals, readRule}
+use Rattle.spec.proofs.Bytes.Tails.{end-place, tails-many, tails-term, tails-subgoal}
+use Rattle.rules.specs.declared.subgoals.Fault.{Fault}
+use Rattle.rules.specs.declared.subgoals.Fault.the-variants.{Count, Early, Over}
+use Rattle.rules.specs.declared.subgoals.Marks.{Marks}
+use Rattle.rules.specs.declared.subgoals.Step.{Step}
+use Rattle.rules.specs.declared.subgoals.Step.the-variants.{Next}
+use Rattle.rules.specs.declared.subgoals.Step.the-variants as step
 use Rattle.rules.specs.declared.Whole.{Whole}
 use Rattle.rules.specs.declared.Whole.the-variants as whole
-use Rattle.subgoals.specs.Marked.{none, marks, goalMarks, stepped}
+use Rattle.rules.specs.Marked.{none, marks, goalMarks, stepped}
 use Rattle.rules.specs.Wholes.{stoppedBy, wholeOf}
-use Rattle.subgoals.proofs.Runs.{Went, went, stopped}
+use Rattle.rules.proofs.Runs.{Went, went, stopped}
 
 two-bytes : (s : List ℕ) → 2 ≤ length s → s ≡ getD s 0 0 ∷ getD s 1 0 ∷ drop 2 s
 two-bytes [] h = absurd (omega arith)

@@ -5,21 +5,21 @@ use mathlib.Core.Bool.{Bool, true, false}
 use mathlib.Core.List.{List, []}
 use Prim.Native.Nat.{ℕ}
 use native.Mathlib.Omega.{arith}
-use Rattle.words.specs.Words.{Rule, Safe, DistinctVariables}
+use Rattle.spec.specs.Words.{Rule, Safe, DistinctVariables}
 use Rattle.bits.specs.Sets.{Has, Within}
-use Rattle.layout.specs.Numbers.{Bytes}
-use Rattle.layout.specs.RuleLayout.{Layout}
-use Rattle.layout.specs.Reading.{Read, got, bad, readRule}
-use Rattle.layout.specs.Reading as reading
-use Rattle.layout.proofs.RuleLaws.{layout-read, no-layout, layout-unique}
-use Rattle.subgoals.specs.declared.Fault.{Fault}
-use Rattle.subgoals.specs.declared.Fault.the-variants.{Count, Relation, Tag, Variable, Early, Over}
-use Rattle.subgoals.specs.declared.Marks.{Marks}
+use Rattle.spec.specs.Numbers.{Bytes}
+use Rattle.spec.specs.RuleLayout.{Layout}
+use Rattle.spec.proofs.Bytes.RuleReading.{Read, got, bad, readRule}
+use Rattle.spec.proofs.Bytes.RuleReading as reading
+use Rattle.spec.proofs.Bytes.RuleLaws.{layout-read, no-layout, layout-unique}
+use Rattle.rules.specs.declared.subgoals.Fault.{Fault}
+use Rattle.rules.specs.declared.subgoals.Fault.the-variants.{Count, Relation, Tag, Variable, Early, Over}
+use Rattle.rules.specs.declared.subgoals.Marks.{Marks}
 use Rattle.rules.specs.declared.Whole.{Whole}
 use Rattle.rules.specs.declared.Whole.the-variants as whole
 use Rattle.rules.specs.declared.Verdict.{Verdict}
 use Rattle.rules.specs.declared.Verdict.the-variants.{Sound, Broken, Unsafe, Repeats}
-use Rattle.subgoals.specs.Marked.{none, marks, goalMarks, faultOf}
+use Rattle.rules.specs.Marked.{none, marks, goalMarks, faultOf}
 use Rattle.rules.specs.Wholes.{wholeOf, brokenBy}
 use Rattle.rules.specs.Judged.{faultSays, IsSound, IsBroken, IsUnsafe, IsRepeating, Judged}
 use Rattle.rules.proofs.Meaning.{safe-within, plain-head}

@@ -3,12 +3,12 @@ use mathlib.Core.Path.{_≡_}
 use mathlib.Core.Bool.{Bool, true}
 use mathlib.Core.List.{List}
 use Prim.Native.Nat.{ℕ}
-use Rattle.words.specs.Words.{Rule, Safe, DistinctVariables}
-use Rattle.layout.specs.RuleLayout.{Layout}
-use Rattle.layout.specs.Reading.{bad, readRule}
-use Rattle.layout.specs.Reading as reading
-use Rattle.subgoals.specs.declared.Fault.{Fault}
-use Rattle.subgoals.specs.declared.Fault.the-variants.{Count, Relation, Tag, Variable, Early, Over}
+use Rattle.spec.specs.Words.{Rule, Safe, DistinctVariables}
+use Rattle.spec.specs.RuleLayout.{Layout}
+use Rattle.spec.proofs.Bytes.RuleReading.{bad, readRule}
+use Rattle.spec.proofs.Bytes.RuleReading as reading
+use Rattle.rules.specs.declared.subgoals.Fault.{Fault}
+use Rattle.rules.specs.declared.subgoals.Fault.the-variants.{Count, Relation, Tag, Variable, Early, Over}
 use Rattle.rules.specs.declared.Verdict.{Verdict}
 use Rattle.rules.specs.declared.Verdict.the-variants.{Sound, Broken, Unsafe, Repeats}
 

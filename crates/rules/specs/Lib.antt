@@ -1,2 +1,3 @@
-pub mod Wholes
 pub mod Judged
+pub mod Marked
+pub mod Wholes

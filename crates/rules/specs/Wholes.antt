@@ -1,11 +1,11 @@
 -- How a reading from the front becomes the answer of a whole rule, and a fault a verdict.
 use Prim.Native.Nat.{ℕ}
-use Rattle.words.specs.Words.{Rule}
-use Rattle.layout.specs.Reading.{Read, got, bad}
-use Rattle.subgoals.specs.Marked.{none, marks, goalMarks, faultOf}
-use Rattle.subgoals.specs.declared.Step.{Step}
-use Rattle.subgoals.specs.declared.Step.the-variants.{Next}
-use Rattle.subgoals.specs.declared.Step.the-variants as step
+use Rattle.spec.specs.Words.{Rule}
+use Rattle.spec.proofs.Bytes.RuleReading.{Read, got, bad}
+use Rattle.rules.specs.Marked.{none, marks, goalMarks, faultOf}
+use Rattle.rules.specs.declared.subgoals.Step.{Step}
+use Rattle.rules.specs.declared.subgoals.Step.the-variants.{Next}
+use Rattle.rules.specs.declared.subgoals.Step.the-variants as step
 use Rattle.rules.specs.declared.Whole.{Whole}
 use Rattle.rules.specs.declared.Whole.the-variants as whole
 use Rattle.rules.specs.declared.Verdict.{Verdict}

@@ -1,16 +1,19 @@
 // A rule's bytes, read strictly from the front: is it sound, and if not, for which reason.
 ghost use mathlib.Core.Path.{_≡_};
-ghost use Rattle.layout.specs.Reading.{readRule};
-ghost use Rattle.subgoals.specs.Marked.{none};
+ghost use Rattle.spec.proofs.Bytes.RuleReading.{readRule};
+ghost use Rattle.rules.specs.Marked.{none};
 ghost use Rattle.rules.specs.Wholes.{stoppedBy, wholeOf, brokenBy};
 ghost use Rattle.rules.specs.Judged.{Judged};
+
+mod subgoals; // terms and subgoals, read from the front
+
 use numbers::wide;
-use subgoals::Marks;
-use subgoals::Step;
-use subgoals::read_subgoals;
-use subgoals::read_terms;
+use crate::subgoals::Marks;
+use crate::subgoals::Step;
+use crate::subgoals::read_subgoals;
+use crate::subgoals::read_terms;
 // a verdict tells the fault, so those who ask for one find it here
-pub use subgoals::Fault;
+pub use crate::subgoals::Fault;
 
 // A whole rule: the notes of its head and of its body.
 pub enum Whole {

@@ -3,7 +3,7 @@ use mathlib.Core.Path.{_≡_, refl, ap}
 use mathlib.Core.Bool.{Bool, true, false}
 use lib.IntN.{ℤ, pos, negsuc}
 use lib.Dec.{T, eqb, eqb→eq}
-use Rattle.words.specs.Refresh.{Lead, ahead, tie}
+use Rattle.spec.specs.Refresh.{Lead, ahead, tie}
 
 abbrev sameWhole : ℤ → ℤ → Bool
 sameWhole (pos a) (pos b) = eqb a b

@@ -1,6 +1,6 @@
-pub mod SoundTest
 pub mod LeadTest
-pub mod ValueTest
-pub mod Tried
-pub mod Proved
 pub mod Only
+pub mod Proved
+pub mod SoundTest
+pub mod Tried
+pub mod ValueTest

@@ -2,9 +2,9 @@
 use mathlib.Core.Path.{_≡_, ap, _∙_}
 use mathlib.Core.List.{List}
 use Prim.Native.Nat.{ℕ}
-use Rattle.promise.specs.Table.{Fault1, Refused}
-use Rattle.promise.specs.Given.{Given, answerBytes, witnessBytes}
-use Rattle.promise.proofs.Once.{given-value, given-result, given-unrefused, refused-same}
+use Rattle.spec.specs.Table.{Fault1, Refused}
+use Rattle.spec.specs.Given.{Given, answerBytes, witnessBytes}
+use Rattle.outcomes.proofs.Once.{given-value, given-result, given-unrefused, refused-same}
 use Rattle.sheets.specs.Sheet.{accepts, refuses, ComesTrue}
 
 module _ (book answer witness : List ℕ) (comes : ComesTrue (accepts book answer witness)) (n m : ℕ) (room : Fault1 n m → ⊥) where

@@ -1,14 +1,14 @@
 -- The statement of the table: what every sheet says comes true.
 use lib.Dec.{T}
-use Rattle.words.specs.Words.{_∈_}
-use Rattle.words.specs.Refresh.{admitted}
-use Rattle.words.specs.Tests.{every, every-sound}
-use Rattle.words.specs.Sheets as values
-use Rattle.layout.specs.Numbers.{numberAt}
-use Rattle.layout.specs.BookLayout.{bookBytes, contentsEnd, entries}
-use Rattle.layout.specs.Contents.{count}
-use Rattle.layout.specs.Refusals.{longest}
-use Rattle.promise.specs.Table.{mostRows}
+use Rattle.spec.specs.Words.{_∈_}
+use Rattle.spec.specs.Refresh.{admitted}
+use Rattle.spec.proofs.Lists.Tests.{every, every-sound}
+use Rattle.spec.proofs.Examples.Values as values
+use Rattle.spec.specs.Numbers.{numberAt}
+use Rattle.spec.specs.BookLayout.{bookBytes, contentsEnd, entries}
+use Rattle.spec.specs.Contents.{count}
+use Rattle.spec.specs.Refusals.{longest}
+use Rattle.spec.specs.Table.{mostRows}
 use Rattle.sheets.specs.Sheet.{Sheet, ComesTrue}
 use Rattle.sheets.specs.Books.{bookA, bookASecond, path, star, pair, apart, eight, nine, noSummaries}
 use Rattle.sheets.specs.SourceBooks.{example41, carLocPart, withoutV4, withoutV2V4}

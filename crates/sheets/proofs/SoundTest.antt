@@ -4,13 +4,13 @@ use mathlib.Core.List.{List, [], _∷_}
 use Prim.Native.Nat.{ℕ, _≤_}
 use lib.ListN.{length, getD}
 use lib.Dec.{T, T-not, leb, leb→le, ltb, ltb→lt, eqb, eqb→eq}
-use Rattle.words.specs.Words.{_∈_, Term, var, con, Subgoal, Rule, DistinctVariables, Fits}
-use Rattle.words.specs.Book.{Summary, Book}
-use Rattle.words.specs.Tests.{and-parts, every, every-sound, any, any-complete}
-use Rattle.words.specs.Equal.{eqNumber, eqTerm, eqList}
-use Rattle.words.specs.Safety.{safe, safe-sound}
-use Rattle.layout.specs.RuleLayout.{TermWithin, TermsWithin, RuleWithin}
-use Rattle.layout.specs.BookLayout.{mostSummaries, questionMost, summaryMost, bookBytes, Arities, SoundQuestion, SoundSummary, SoundValue, SoundBook}
+use Rattle.spec.specs.Words.{_∈_, Term, var, con, Subgoal, Rule, DistinctVariables, Fits}
+use Rattle.spec.specs.Book.{Summary, Book}
+use Rattle.spec.proofs.Lists.Tests.{and-parts, every, every-sound, any, any-complete}
+use Rattle.spec.proofs.Decided.Equal.{eqNumber, eqTerm, eqList}
+use Rattle.spec.proofs.Decided.Safety.{safe, safe-sound}
+use Rattle.spec.specs.RuleLayout.{TermWithin, TermsWithin, RuleWithin}
+use Rattle.spec.specs.BookLayout.{mostSummaries, questionMost, summaryMost, bookBytes, Arities, SoundQuestion, SoundSummary, SoundValue, SoundBook}
 
 abbrev termWithin : Term ℕ → Bool
 termWithin (var v) = ltb v 32

@@ -7,15 +7,15 @@ use Prim.Native.Nat.{ℕ}
 use native.Mathlib.Omega.{arith}
 use lib.ListN.{length}
 use lib.Dec.{T, leb, leb→le, ltb, ltb→lt, eqb, eqb→eq}
-use Rattle.words.specs.Words.{var}
-use Rattle.words.specs.Refresh.{lead}
-use Rattle.words.specs.Book.{Book}
-use Rattle.words.specs.Tests.{and-parts, or-cases}
-use Rattle.words.specs.Written.{x0, x1, rule, on, at1}
-use Rattle.layout.specs.BookLayout.{mostSummaries}
-use Rattle.layout.specs.Contents.{count}
-use Rattle.layout.specs.Refusals.{longest, Fault2, two, three}
-use Rattle.promise.specs.Table.{Fault1, Refused, read}
+use Rattle.spec.specs.Words.{var}
+use Rattle.spec.specs.Refresh.{lead}
+use Rattle.spec.specs.Book.{Book}
+use Rattle.spec.proofs.Lists.Tests.{and-parts, or-cases}
+use Rattle.spec.proofs.Examples.Written.{x0, x1, rule, on, at1}
+use Rattle.spec.specs.BookLayout.{mostSummaries}
+use Rattle.spec.specs.Contents.{count}
+use Rattle.spec.specs.Refusals.{longest, Fault2, two, three}
+use Rattle.spec.specs.Table.{Fault1, Refused, read}
 use Rattle.sheets.specs.Sheet.{Sheet, accepts, refuses, leads, ComesTrue}
 use Rattle.sheets.proofs.LeadTest.{sameLead, lead-sound}
 use Rattle.sheets.proofs.ValueTest.{many, many-sound, accepted, accepted-sound, refused, refused-sound}

@@ -6,18 +6,18 @@ use Prim.Native.Nat.{ℕ}
 use native.Mathlib.Omega.{arith}
 use lib.ListN.{length}
 use lib.Dec.{T, leb, leb→le, ltb, ltb→lt}
-use Rattle.words.specs.Words.{_∈_, Rule}
-use Rattle.words.specs.Book.{Book, admittedOf}
-use Rattle.words.specs.Result.{Answered}
-use Rattle.words.specs.Rows.{allRows}
-use Rattle.words.specs.Tests.{and-parts, any, any-sound}
-use Rattle.words.specs.Equal.{eqNumber, eqList}
-use Rattle.words.specs.Sheets.{Sheet, sheets, Meant, meant}
-use Rattle.layout.specs.BookLayout.{SoundBook}
-use Rattle.promise.specs.Table.{mostRows, Fault1, Fault9, Refused, nine, ten}
-use Rattle.promise.specs.Given.{answerBytes, witnessBytes}
-use Rattle.promise.proofs.Grants.{value-safe}
-use Rattle.promise.proofs.Total.{fault-9}
+use Rattle.spec.specs.Words.{_∈_, Rule}
+use Rattle.spec.specs.Book.{Book, admittedOf}
+use Rattle.spec.specs.Result.{Answered}
+use Rattle.spec.proofs.Decided.Rows.{allRows}
+use Rattle.spec.proofs.Lists.Tests.{and-parts, any, any-sound}
+use Rattle.spec.proofs.Decided.Equal.{eqNumber, eqList}
+use Rattle.spec.proofs.Examples.Values.{Sheet, sheets, Meant, meant}
+use Rattle.spec.specs.BookLayout.{SoundBook}
+use Rattle.spec.specs.Table.{mostRows, Fault1, Fault9, Refused, nine, ten}
+use Rattle.spec.specs.Given.{answerBytes, witnessBytes}
+use Rattle.outcomes.proofs.Grants.{value-safe}
+use Rattle.outcomes.proofs.Total.{fault-9}
 use Rattle.sheets.specs.Sheet.{GivenAs}
 use Rattle.sheets.proofs.SoundTest.{soundBook, book-sound}
 

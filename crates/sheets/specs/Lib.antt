@@ -1,5 +1,5 @@
-pub mod Sheet
 pub mod Books
+pub mod Sheet
+pub mod Sheets
 pub mod SourceBooks
 pub mod WrongBooks
-pub mod Sheets

@@ -2,9 +2,9 @@
 use mathlib.Core.Path.{_≡_}
 use mathlib.Core.List.{List}
 use Prim.Native.Nat.{ℕ}
-use Rattle.words.specs.Refresh.{Lead, lead}
-use Rattle.promise.specs.Table.{Fault1, Refused}
-use Rattle.promise.specs.Given.{Given, answerBytes, witnessBytes}
+use Rattle.spec.specs.Refresh.{Lead, lead}
+use Rattle.spec.specs.Table.{Fault1, Refused}
+use Rattle.spec.specs.Given.{Given, answerBytes, witnessBytes}
 
 -- The bytes of a book, and those of its answer and its witness, or number and place of its refusal; or a need, a stamp, and the stamp's lead.
 pub data Sheet : Type 0 where

@@ -2,7 +2,7 @@
 -- out by hand. proofs/Proved.antt has the statement.
 use mathlib.Core.List.{List, [], _∷_}
 use lib.IntN.{pos, negℤ}
-use Rattle.words.specs.Refresh.{ahead, tie}
+use Rattle.spec.specs.Refresh.{ahead, tie}
 use Rattle.sheets.specs.Sheet.{Sheet, accepts, refuses, leads}
 use Rattle.sheets.specs.Books.{bookA, bookASecond, path, star, pair, apart, eight, nine, noSummaries}
 use Rattle.sheets.specs.SourceBooks.{example41, carLocPart, withoutV4, withoutV2V4}

@@ -4,7 +4,7 @@
 //     sound many       standard input is many books, each after its length (4 bytes, little-endian)
 //     sound repeat     standard input is a book, read 10,000 times for timing: how often it was sound
 ghost use Prim.Native.Nat.{_≤_};
-use books::Reading;
+use spec::Reading;
 use books::read_book;
 use check::same;
 use libc::STDIN_FILENO;
@@ -22,7 +22,7 @@ fn print_reading(reading: Reading) {
         Reading::Sound => {
             io::write_all(STDOUT_FILENO, b"sound\n");
         }
-        Reading::Refused(number, place) => showing::print_refusal(number, place),
+        Reading::Refused(number, place) => console::print_refusal(number, place),
     }
 }
 
@@ -34,14 +34,14 @@ fn one_book() {
 
 // The next of many books; answers whether there was one.
 fn next_book() -> bool {
-    let size = input::size();
-    if size == input::NO_MORE {
+    let size = console::input::size();
+    if size == console::input::NO_MORE {
         return false;
     }
     let mut book = [0u8; ROOM];
-    let n = input::fill(&mut book, size);
+    let n = console::input::fill(&mut book, size);
     print_reading(read_book(&book[..n]));
-    input::pass(size - n as u64);
+    console::input::pass(size - n as u64);
     true
 }
 

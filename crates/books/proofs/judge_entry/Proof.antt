@@ -5,19 +5,19 @@ use Prim.Native.Nat.{ℕ, _<_, _+_, _-_}
 use native.Mathlib.Omega.{arith}
 use borrow.Author.Needs.{needs}
 use lib.ListN.{take, drop}
-use Rattle.layout.specs.Contents.{offsetAt, lengthAt, partAt, entriesIn}
-use Rattle.layout.specs.Refusals.{mostAt}
-use Rattle.layout.proofs.Within.{loads-room, part-within}
+use Rattle.spec.specs.Contents.{offsetAt, lengthAt, partAt, entriesIn}
+use Rattle.spec.specs.Refusals.{mostAt}
+use Rattle.spec.proofs.Bytes.Within.{loads-room, part-within}
 use Rattle.rules.specs.Judged.{Judged}
-use Rattle.books.specs.Says.{summaryAt}
+use Rattle.books.specs.Entries.{summaryAt}
 use Rattle.books.proofs.Entries.{Verdicts, verdict-of}
 use Rattle.books.proofs.judge_entry.Statement.{statement}
 use Rattle.books.proofs.judge_entry.Tie as tie
 use Rattle.books.proofs.judge_entry.Reads as reads
 use Rattle.books.proofs.judge_entry.Lts as lts
 use Rattle.books.proofs.most_at.Reads as most-at-reads
-use Rattle.entries.proofs.fields.length_at.Reads as length-at-reads
-use Rattle.entries.proofs.fields.offset_at.Reads as offset-at-reads
+use Rattle.contents.proofs.fields.length_at.Reads as length-at-reads
+use Rattle.contents.proofs.fields.offset_at.Reads as offset-at-reads
 use Rattle.rules.proofs.judge.Reads as judge-reads
 
 -- src/lib.rt:60:9

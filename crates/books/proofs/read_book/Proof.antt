@@ -1,6 +1,6 @@
 use mathlib.Core.Path.{subst}
 use borrow.Author.Needs.{needs}
-use Rattle.contents.specs.Loading.{LoadSays}
+use Rattle.spec.specs.Loading.{LoadSays}
 use Rattle.books.proofs.read_book.Statement.{statement}
 use Rattle.books.proofs.read_book.Tie as tie
 use Rattle.books.proofs.read_book.Reads as reads

@@ -5,7 +5,7 @@ use borrow.Author.Needs.{needs}
 use denote.Enum.Declared.{tagOf}
 use Rattle.rules.proofs.Verdict as verdict
 use Rattle.rules.specs.declared.Verdict.the-variants.{Sound}
-use Rattle.layout.specs.Refusals.{Refusal}
+use Rattle.spec.specs.Refusals.{Refusal}
 use Rattle.books.proofs.Entries.{Verdicts, all-entries, entry-sound, entry-refused, not-first, SoundUpTo, one-more, all-sound}
 use Rattle.books.proofs.read_rules.Statement.{statement}
 use Rattle.books.proofs.read_rules.Tie as tie
@@ -13,7 +13,7 @@ use Rattle.books.proofs.read_rules.Reads as reads
 use Rattle.books.proofs.read_rules.Lts as lts
 use Rattle.books.proofs.judge_entry.Reads as judge-entry-reads
 use Rattle.books.proofs.number_of.Reads as number-of-reads
-use Rattle.entries.proofs.fields.entries_of.Reads as entries-of-reads
+use Rattle.contents.proofs.fields.entries_of.Reads as entries-of-reads
 
 -- the entries before i are sound
 abbrev Inv-loop : tie.InvT-loop

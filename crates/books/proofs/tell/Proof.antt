@@ -1,6 +1,6 @@
 use mathlib.Core.Path.{ap, sym}
 use borrow.Author.Needs.{needs}
-use Rattle.books.specs.Says.{toldOf}
+use Rattle.spec.specs.Reading.{toldOf}
 use Rattle.books.proofs.tell.Statement.{statement}
 use Rattle.books.proofs.tell.Tie as tie
 use Rattle.books.proofs.tell.Reads as reads

@@ -1,4 +1,4 @@
-use Rattle.asking.proofs.Laid.{question-part, laid}
+use Rattle.book_codes.proofs.Laid.{question-part, laid}
 use Rattle.checker.proofs.Parts.{goals-are}
 use Rattle.checker.proofs.question_goals.Statement.{statement}
 use Rattle.checker.proofs.question_goals.Tie as tie

@@ -3,10 +3,10 @@ use mathlib.Core.Path.{_≡_, refl}
 use Prim.Native.Nat.{_+_, _*_, _≤_, _<_}
 use native.Mathlib.Omega.{arith}
 use lib.ListN.{length}
-use Rattle.layout.specs.Contents.{count, entriesIn}
-use Rattle.layout.specs.Refusals.{Loads}
-use Rattle.layout.proofs.Within.{entries-counted, loads-room, part-within, part-lent}
-use Rattle.layout.proofs.FirstFaults.{loads-unrefused}
+use Rattle.spec.specs.Contents.{count, entriesIn}
+use Rattle.spec.specs.Refusals.{Loads}
+use Rattle.spec.proofs.Bytes.Within.{entries-counted, loads-room, part-within, part-lent}
+use Rattle.spec.proofs.Bytes.FirstFaults.{loads-unrefused}
 use Rattle.contents.proofs.Answers.{good, refused}
 use Rattle.contents.proofs.entry.Statement.{statement}
 use Rattle.contents.proofs.entry.Tie as tie

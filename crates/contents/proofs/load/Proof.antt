@@ -1,8 +1,8 @@
 use borrow.Author.Needs.{needs}
 use native.Mathlib.Omega.{arith}
-use Rattle.layout.specs.Contents.{NoGaps}
-use Rattle.layout.specs.Refusals.{Fault2, Fault3, four, five}
-use Rattle.entries.proofs.Answers.{passed, faulty}
+use Rattle.spec.specs.Contents.{NoGaps}
+use Rattle.spec.specs.Refusals.{Fault2, Fault3, four, five}
+use Rattle.contents.proofs.Entries.Answers.{passed, faulty}
 use Rattle.contents.proofs.Sizes.{too-short, too-long, right-size, too-many}
 use Rattle.contents.proofs.load.Statement.{statement}
 use Rattle.contents.proofs.load.Tie as tie

@@ -1,6 +1,6 @@
 use borrow.Author.Needs.{needs}
 use native.Mathlib.Omega.{arith}
-use Rattle.layout.proofs.NumberAt.{number-two}
+use Rattle.spec.proofs.Bytes.NumberAt.{number-two}
 use Rattle.numbers.proofs.u16_at.Statement.{statement}
 use Rattle.numbers.proofs.u16_at.Tie as tie
 

@@ -1,6 +1,6 @@
 use borrow.Author.Needs.{needs}
 use native.Mathlib.Omega.{arith}
-use Rattle.layout.proofs.NumberAt.{number-four}
+use Rattle.spec.proofs.Bytes.NumberAt.{number-four}
 use Rattle.numbers.proofs.u32_at.Statement.{statement}
 use Rattle.numbers.proofs.u32_at.Tie as tie
 

@@ -5,10 +5,10 @@ use Prim.Native.Nat.{ℕ, _<_, _≤_, _+_, _-_, _*_}
 use native.Mathlib.Omega.{arith}
 use borrow.Author.Tests.{not-true, not-false, eqb-true, eqb-false}
 use lib.ListN.{length, getD}
-use Rattle.slots.specs.Task.{posed}
-use Rattle.slots.proofs.Slots.{stood-none}
-use Rattle.slots.proofs.Judging.{unsettled}
-use Rattle.placing.proofs.Guess.{Guess, guess-start, guess-same, guess-new, guess-full}
+use Rattle.task.specs.Task.{posed}
+use Rattle.task.proofs.Slots.{stood-none}
+use Rattle.lookahead.proofs.Judging.{unsettled}
+use Rattle.task.proofs.Guess.{Guess, guess-start, guess-same, guess-new, guess-full}
 use Rattle.placing.proofs.Refuted.{Refuted, refuted-start, refuted-relation, refuted-row, refuted-unlike, refuted-below}
 use Rattle.placing.proofs.Answered.{answer-end, answer-vain, answer-none, answer-settled, answer-below}
 use borrow.Fn.Kinds.{In}
@@ -16,21 +16,21 @@ use borrow.Fn.PlainCycle.{Measures, is, falls, and}
 use Rattle.placing.proofs.place.Reads as place
 use Rattle.placing.proofs.place.Kinds as place-kinds
 use Rattle.placing.proofs.+place.Lts-place as place-lts
-use Rattle.slots.proofs.alike.Reads as alike-reads
-use Rattle.slots.proofs.blamed.Reads as blamed-reads
+use Rattle.task.proofs.terms.alike.Reads as alike-reads
+use Rattle.lookahead.proofs.reasons.blamed.Reads as blamed-reads
 use Rattle.placing.proofs.carried.Reads as carried-reads
-use Rattle.slots.proofs.enters.Reads as enters-reads
-use Rattle.slots.proofs.joined.Reads as joined-reads
-use Rattle.slots.proofs.no_reasons.Reads as no-reasons-reads
+use Rattle.lookahead.proofs.reasons.enters.Reads as enters-reads
+use Rattle.lookahead.proofs.reasons.joined.Reads as joined-reads
+use Rattle.lookahead.proofs.reasons.no_reasons.Reads as no-reasons-reads
 use Rattle.placing.proofs.none.Reads as none-reads
-use Rattle.slots.proofs.noted.Reads as noted-reads
-use Rattle.slots.proofs.opened.Reads as opened-reads
-use Rattle.outlook.proofs.look.Reads as look-reads
-use Rattle.slots.proofs.settled.Reads as settled-reads
-use Rattle.slots.proofs.shorted.Reads as shorted-reads
-use Rattle.slots.proofs.stands.Reads as stands-reads
+use Rattle.task.proofs.terms.noted.Reads as noted-reads
+use Rattle.task.proofs.terms.opened.Reads as opened-reads
+use Rattle.lookahead.proofs.look.Reads as look-reads
+use Rattle.lookahead.proofs.reasons.settled.Reads as settled-reads
+use Rattle.lookahead.proofs.reasons.shorted.Reads as shorted-reads
+use Rattle.task.proofs.terms.stands.Reads as stands-reads
 use Rattle.placing.proofs.whole.Reads as whole-reads
-use Rattle.slots.proofs.width.Reads as width-reads
+use Rattle.task.proofs.terms.width.Reads as width-reads
 use Rattle.placing.proofs.+place.{statement}
 use Rattle.placing.proofs.+place.Tie.{close}
 

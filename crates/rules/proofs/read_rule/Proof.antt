@@ -6,8 +6,8 @@ use Rattle.rules.proofs.read_rule.Statement.{statement}
 use Rattle.rules.proofs.read_rule.Tie as tie
 use Rattle.rules.proofs.read_rule.Reads as reads
 use Rattle.rules.proofs.read_rule.Lts as lts
-use Rattle.subgoals.proofs.read_subgoals.Reads as read-subgoals-reads
-use Rattle.subgoals.proofs.read_terms.Reads as read-terms-reads
+use Rattle.rules.proofs.subgoals.read_subgoals.Reads as read-subgoals-reads
+use Rattle.rules.proofs.subgoals.read_terms.Reads as read-terms-reads
 use Rattle.rules.proofs.stopped.Reads as stopped-reads
 use Rattle.rules.proofs.unnoted.Reads as unnoted-reads
 use Rattle.numbers.proofs.wide.Reads as wide-reads

@@ -1,13 +1,13 @@
 use mathlib.Core.Path.{_≡_}
 use native.Mathlib.Omega.{arith}
 use borrow.Author.Needs.{needs}
-use Rattle.layout.proofs.Within.{loads-room, part-within, part-lent}
+use Rattle.spec.proofs.Bytes.Within.{loads-room, part-within, part-lent}
 use Rattle.books.proofs.parts.part_of.Statement.{statement}
 use Rattle.books.proofs.parts.part_of.Tie as tie
 use Rattle.books.proofs.parts.part_of.Reads as reads
 use Rattle.books.proofs.parts.part_of.Lts as lts
-use Rattle.entries.proofs.fields.length_at.Reads as length-at-reads
-use Rattle.entries.proofs.fields.offset_at.Reads as offset-at-reads
+use Rattle.contents.proofs.fields.length_at.Reads as length-at-reads
+use Rattle.contents.proofs.fields.offset_at.Reads as offset-at-reads
 
 offset-at-requires : tie.Need-offset-at-requires
 offset-at-requires c κs = let s = c .before in loads-room (s .args .book .now) (s .args .i) (s .pre .0) (s .pre .1)

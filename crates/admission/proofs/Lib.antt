@@ -1,0 +1,4 @@
+pub mod Leads
+pub mod Signs
+pub mod Standing
+pub mod Unique

@@ -1,0 +1,2 @@
+pub mod Leads
+pub mod Summaries

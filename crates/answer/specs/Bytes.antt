@@ -1,0 +1,47 @@
+-- Words as the bytes that are written for them.
+use mathlib.Core.Bool.{cond}
+use mathlib.Core.List.{List, [], _∷_, _++_, map}
+use Prim.Native.Nat.{ℕ, zero, suc, _+_, _*_, _%_, _≤_}
+use lib.Dec.{ltb}
+use lib.ListN.{length, getD, take, drop}
+use Rattle.spec.specs.Summaries.{joined}
+use Rattle.spec.specs.Numbers.{little}
+use Rattle.codes.specs.Code.{constantTag}
+
+-- "one byte 0 (variable) or 1 (constant)"
+unfoldable pub tagOf : ℕ → ℕ
+tagOf word = cond (ltb word constantTag) 0 1
+
+-- ".. then four bytes"
+abbrev pub wordBytes : ℕ → List ℕ
+wordBytes word = tagOf word ∷ little 4 (word % 4294967296)
+
+abbrev pub wordsBytes : List ℕ → List ℕ
+wordsBytes words = joined (map wordBytes words)
+
+-- "a summary number in each subgoal where a relation number stood": the row r, of so many terms
+abbrev pub rowBytes : List ℕ → ℕ → ℕ → List ℕ
+rowBytes words r wide = getD words (9 * r) 0 % 256 ∷ wordsBytes (take wide (drop (9 * r + 1) words))
+
+-- k rows from r on
+abbrev pub rowsBytes : List ℕ → List ℕ → ℕ → ℕ → List ℕ
+rowsBytes words widths r zero = []
+rowsBytes words widths r (suc k) = rowBytes words r (getD widths r 0) ++ rowsBytes words widths (suc r) k
+
+-- k rows stand in the words, none of more than eight terms
+pub record Rows (words widths : List ℕ) (k : ℕ) : Type 0 where
+  pub stand : 9 * k ≤ length words
+  pub told : k ≤ length widths
+  pub narrow : (r : ℕ) → getD widths r 0 ≤ 8
+
+-- the question's head, then k rows
+abbrev pub rewritingBytes : List ℕ → List ℕ → List ℕ → ℕ → List ℕ
+rewritingBytes body words widths k = getD body 0 0 ∷ k ∷ (take (5 * getD body 0 0) (drop 2 body) ++ rowsBytes words widths 0 k)
+
+-- there is room for the longest rewriting, and the question's head and the rows stand where they are read
+pub record Writable (out body words widths : List ℕ) (k : ℕ) : Type 0 where
+  pub room : 534 ≤ length out
+  pub short : getD body 0 0 ≤ 8
+  pub head : 2 + 5 * getD body 0 0 ≤ length body
+  pub few : k ≤ 12
+  pub rows : Rows words widths k

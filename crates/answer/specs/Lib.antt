@@ -1,0 +1,3 @@
+pub mod Bytes
+pub mod Picked
+pub mod Steps

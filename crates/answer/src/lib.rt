@@ -1,0 +1,61 @@
+// The chosen rows of a sound book as the bytes of answer and witness, in two lent areas.
+ghost use lib.ListN.{length};
+ghost use Rattle.spec.specs.Rewriting.{Accepted};
+ghost use Rattle.answer.specs.Steps.{Puts, ChosenPut};
+
+mod picked; // the chosen rows, out of the words of all
+mod rule_bytes; // a rewriting as bytes
+
+use books::parts::part_of;
+use first_shortest::Chosen;
+use crate::picked::pick;
+use witness::there::put_there;
+use witness::back::put_back;
+use crate::rule_bytes::put_rule;
+
+// The lengths of answer and witness.
+pub struct Lengths {
+    pub answer: usize,
+    pub witness: usize,
+}
+
+// The witness's two parts, then the answer: k rows, by their words and widths.
+fn put_all(
+    book: &[u8],
+    words: &[u64],
+    widths: &[u8],
+    k: usize,
+    answer: &mut [u8],
+    witness: &mut [u8],
+) -> Lengths
+    requires { ⌜ Puts (now book) (now words) (now widths) k (length (now answer)) (length (now witness)) ⌝ }
+    ensures { λ r. ⌜ Accepted (now (book .entry)) (now (answer .entry)) (now (answer .exit)) (now (witness .entry)) (now (witness .exit)) (r .answer) (r .witness) ⌝ }
+{
+    let there = put_there(book, words, k, witness);
+    let back = put_back(book, words, k, witness, there);
+    let long = put_rule(answer, part_of(book, 1), words, widths, k);
+    Lengths {
+        answer: long,
+        witness: there + back,
+    }
+}
+
+// The rows chosen, written.
+pub fn put_chosen(
+    book: &[u8],
+    rows: &[u64],
+    n: usize,
+    chosen: Chosen,
+    answer: &mut [u8],
+    witness: &mut [u8],
+) -> Lengths
+    requires { ⌜ ChosenPut (now book) (now rows) n chosen (length (now answer)) (length (now witness)) ⌝ }
+    ensures { λ r. ⌜ Accepted (now (book .entry)) (now (answer .entry)) (now (answer .exit)) (now (witness .entry)) (now (witness .exit)) (r .answer) (r .witness) ⌝ }
+{
+    let k = chosen.k;
+    let picks = chosen.rows;
+    let mut words = [0u64; 108];
+    let mut widths = [0u8; 12];
+    pick(rows, &picks, k, &mut words, &mut widths);
+    put_all(book, &words, &widths, k, answer, witness)
+}

@@ -1,2 +1,0 @@
-pub mod InOrderSteps
-pub mod Unique

@@ -1,0 +1,14 @@
+pub mod BackTask
+pub mod Beginnings
+pub mod Expanded
+pub mod Growing
+pub mod Laid
+pub mod Lent
+pub mod Read
+pub mod RowUse
+pub mod Sourced
+pub mod Spread
+pub mod Stored
+pub mod SummaryRows
+pub mod ThereTask
+pub mod Unique

@@ -1,0 +1,84 @@
+-- The way there as a task of the search: the question's codes are to be placed on those of the uses.
+use mathlib.Core.Path.{_≡_, sym, ap, _∙_, subst}
+use mathlib.Core.Logic.{_↔_}
+use mathlib.Core.List.{List}
+use Prim.Native.Nat.{ℕ, _*_, _-_, _<_, _≤_}
+use native.Mathlib.Omega.{arith}
+use lib.ListN.{length, getD, take, replicate}
+use lib.Seq.{length-take-le}
+use Rattle.spec.specs.Words.{Term, Subgoal, Mapping}
+use Rattle.spec.specs.Summaries.{Summaries, Own, rewriting, uses, joined, expansion}
+use Rattle.spec.specs.Answer.{There, FirstThere}
+use Rattle.spec.specs.Book.{Book, admittedOf}
+use Rattle.task.specs.Task.{Task, posed, Sized}
+use Rattle.task.specs.Mapped.{Mapped, FirstMapped}
+use Rattle.search_meaning.specs.Uses.{pairsOf}
+use Rattle.search_meaning.specs.HeadBound.{HeadBound}
+use Rattle.outcomes.specs.Bounds.{Bounds}
+use Rattle.search_meaning.specs.Tasks.{thereTask}
+use Rattle.outcomes.proofs.Bounds.{book-bounds}
+use Rattle.search_meaning.proofs.Owners.{owners-long, owners-below}
+use Rattle.search_meaning.proofs.Into.{there-sized}
+use Rattle.search_meaning.proofs.There.{there-is, there-first, there-some}
+use Rattle.book_codes.specs.Question.{SomeSound, QuestionSource, QuestionBound}
+use Rattle.book_codes.proofs.Lent.{goals-few, source-words, source-widths}
+use Rattle.book_codes.specs.UsesLent.{OntoOf, Onto}
+
+module _ {book target own inner : List ℕ} (b : Book) (l : List (Subgoal (Term ℕ))) (o : OntoOf book target own inner b l)
+    {before after old new : List ℕ} {n : ℕ} (source : QuestionSource book before after old new n) {bound : List ℕ} (heads : QuestionBound book bound) where
+  abbrev s : Summaries
+  s = admittedOf b
+
+  abbrev ls : List (List (Subgoal (Term (Own ℕ))))
+  ls = uses s 0 l
+
+  abbrev lasts : List ℕ
+  lasts = take n (replicate 12 0)
+
+  abbrev pub lent : Task
+  lent = posed (take (9 * n) after) (take n new) lasts target own
+
+  task-is : lent ≡ thereTask s (b .question) l lasts own
+  task-is = λ i. record {
+    source = source-words b (o .list .sound) source i;
+    widths = source-widths b (o .list .sound) source i;
+    lasts = lasts;
+    target = o .words i;
+    own = own;
+  }
+
+  bounds : Bounds (b .arities) s (b .question)
+  bounds = book-bounds b (o .list .sound .value)
+
+  pub owned : length own ≡ length (joined ls)
+  owned = ap length (o .owns) ∙ owners-long 0 ls
+
+  pub few-goals : n ≤ 12
+  few-goals = goals-few b (o .list .sound) source
+
+  marked : length lasts ≡ length (b .question .body)
+  marked = length-take-le n (replicate 12 0) few-goals ∙ source .count b (o .list .sound)
+
+  pub own-small : (k : ℕ) → getD own k 0 < 64
+  own-small k = subst (λ m. getD m k 0 < 64) (sym (o .owns)) (owners-below s l (let f = o .list .few in omega arith) k)
+
+  pub there-lent : Sized lent
+  there-lent = subst Sized (sym task-is) (there-sized (b .arities) s (b .question) bounds l (o .list .within) lasts own bound owned (let f = o .list .few in omega arith) marked own-small)
+
+  abbrev head : HeadBound (b .question .head) bound
+  head = heads .is b (o .list .sound)
+
+  -- places are a mapping's exactly if their pairs are the witness's first part
+  pub there-mapped : (places : List ℕ) → Mapped lent bound places ↔ There s (b .question) (rewriting (b .question) l) (pairsOf ls places)
+  there-mapped places = subst (λ t. Mapped t bound places ↔ There s (b .question) (rewriting (b .question) l) (pairsOf ls places)) (sym task-is) (there-is (b .arities) s (b .question) bounds l (o .list .within) lasts own bound owned head places)
+
+  -- where the question maps into the uses, some places are a mapping's
+  pub there-places : Mapping (b .question) (expansion s (rewriting (b .question) l)) → (m : List ℕ) × Mapped lent bound m
+  there-places there = subst (λ t. (m : List ℕ) × Mapped t bound m) (sym task-is) (there-some (b .arities) s (b .question) bounds l (o .list .within) lasts own bound owned head .1 there)
+
+  -- the first places are the first part of the witness
+  pub there-firsts : (places : List ℕ) → FirstMapped lent bound places → FirstThere s (b .question) (rewriting (b .question) l) (pairsOf ls places)
+  there-firsts places f = there-first (b .arities) s (b .question) bounds l (o .list .within) lasts own bound owned head places .0 (subst (λ t. FirstMapped t bound places) task-is f)
+
+pub some-sound : {book target own inner : List ℕ} → Onto book target own inner → SomeSound book
+some-sound o = record { value = o .value; sound = o .is .list .sound }

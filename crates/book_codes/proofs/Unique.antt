@@ -1,0 +1,3 @@
+pub mod OneUse
+pub mod Question
+pub mod Uses

@@ -1,3 +1,0 @@
-pub mod BodyTerms
-pub mod Heads
-pub mod Uses

@@ -1,0 +1,44 @@
+-- Words filled up to eight; how many words there are.
+use mathlib.Core.Path.{_≡_, refl, ap, _∙_}
+use mathlib.Core.List.{List, [], _∷_, map}
+use Prim.Native.Nat.{ℕ, zero, suc, _*_, _<_, _≤_}
+use native.Mathlib.Omega.{arith}
+use lib.ListN.{length, getD, take, length-append, List·getD-eq-default}
+use Rattle.spec.specs.Words.{Subgoal}
+use Rattle.codes.specs.Code.{padded, subgoalWords, wordsOf}
+
+pub padded-length : (n : ℕ) (l : List ℕ) → length (padded n l) ≡ n
+padded-length zero l = refl
+padded-length (suc n) [] = ap suc (padded-length n [])
+padded-length (suc n) (x ∷ l) = ap suc (padded-length n l)
+
+-- where the list has ended stands 1
+pub padded-at : (n : ℕ) (l : List ℕ) (k : ℕ) → k < n → getD (padded n l) k 0 ≡ getD l k 1
+padded-at zero l k h = absurd (omega arith)
+padded-at (suc n) [] zero h = refl
+padded-at (suc n) [] (suc k) h = padded-at n [] k (omega arith)
+padded-at (suc n) (x ∷ l) zero h = refl
+padded-at (suc n) (x ∷ l) (suc k) h = padded-at n l k (omega arith)
+
+pub padded-get : (n : ℕ) (l : List ℕ) (i : ℕ) → i < n → i < length l → getD (padded n l) i 0 ≡ getD l i 0
+padded-get zero l i h m = absurd (omega arith)
+padded-get (suc n) [] i h m = absurd (omega arith)
+padded-get (suc n) (x ∷ l) zero h m = refl
+padded-get (suc n) (x ∷ l) (suc i) h m = padded-get n l i (omega arith) (omega arith)
+
+pub padded-past : (n : ℕ) (l : List ℕ) (i : ℕ) → i < n → length l ≤ i → getD (padded n l) i 0 ≡ 1
+padded-past n l i h m = padded-at n l i h ∙ List·getD-eq-default l 1 {n = i} m
+
+-- the words filled up begin with the words
+pub padded-front : (n : ℕ) (l : List ℕ) → length l ≤ n → take (length l) (padded n l) ≡ l
+padded-front n [] h = refl
+padded-front zero (x ∷ l) h = absurd (omega arith)
+padded-front (suc n) (x ∷ l) h = ap (_∷_ x) (padded-front n l (omega arith))
+
+module _ {A : Type 0} (code : A → ℕ) where
+  pub nine : (g : Subgoal A) → length (subgoalWords code g) ≡ 9
+  nine g = ap suc (padded-length 8 (map code (g .terms)))
+
+  pub words-length : (gs : List (Subgoal A)) → length (wordsOf code gs) ≡ 9 * length gs
+  words-length [] = refl
+  words-length (g ∷ gs) = omega (arith, length-append (subgoalWords code g) (wordsOf code gs), nine g, words-length gs)

@@ -1,0 +1,61 @@
+-- Terms and subgoals as the words that the search reads. A subgoal is nine words: its relation and eight terms, of which the first few count.
+use mathlib.Core.List.{List, [], _∷_, _++_, map}
+use Prim.Native.Nat.{ℕ, zero, suc, _+_, _*_}
+use lib.ListN.{length}
+use Rattle.spec.specs.Words.{Term, var, con, Subgoal}
+use Rattle.spec.specs.Summaries.{Own, old, fresh}
+
+-- A word of a target is a tag, in units of 2^32, and a number: 1 a variable, 2 a constant, 3 a use's own variable. So words sort as terms do, and none is 0.
+abbrev pub variableTag : ℕ
+variableTag = 4294967296
+
+abbrev pub constantTag : ℕ
+constantTag = 8589934592
+
+abbrev pub freshTag : ℕ
+freshTag = 12884901888
+
+-- a term of the question
+abbrev pub termCode : Term ℕ → ℕ
+termCode (var x) = variableTag + x
+termCode (con c) = constantTag + c
+
+-- a term of an expansion; uses are numbered from 0, a use has variables 0 to 31
+abbrev pub ownCode : Term (Own ℕ) → ℕ
+ownCode (var (old x)) = variableTag + x
+ownCode (var (fresh u x)) = freshTag + (32 * u + x)
+ownCode (con c) = constantTag + c
+
+-- A word of a source is a slot, below 64, or a constant's word. A rule's own variables are slots 0 to 31.
+abbrev pub slotCode : Term ℕ → ℕ
+slotCode (var x) = x
+slotCode (con c) = constantTag + c
+
+-- In an expansion as a source, the list's variables are slots 0 to 31, and the current use's own are 32 to 63.
+abbrev pub ownSlot : Term (Own ℕ) → ℕ
+ownSlot (var (old x)) = x
+ownSlot (var (fresh u x)) = 32 + x
+ownSlot (con c) = constantTag + c
+
+-- One use as a source that keeps the list's terms as they are: those are words of a target, and the use's own variables are slots.
+abbrev pub keptSlot : Term (Own ℕ) → ℕ
+keptSlot (var (old x)) = variableTag + x
+keptSlot (var (fresh u x)) = x
+keptSlot (con c) = constantTag + c
+
+-- eight words: those of the list, and 1 where it has ended
+abbrev pub padded : ℕ → List ℕ → List ℕ
+padded zero l = []
+padded (suc n) [] = 1 ∷ padded n []
+padded (suc n) (x ∷ l) = x ∷ padded n l
+
+abbrev pub subgoalWords : {A : Type 0} → (A → ℕ) → Subgoal A → List ℕ
+subgoalWords code g = g .relation ∷ padded 8 (map code (g .terms))
+
+abbrev pub wordsOf : {A : Type 0} → (A → ℕ) → List (Subgoal A) → List ℕ
+wordsOf code [] = []
+wordsOf code (g ∷ gs) = subgoalWords code g ++ wordsOf code gs
+
+-- how many of a subgoal's eight terms count
+abbrev pub widthsOf : {A : Type 0} → List (Subgoal A) → List ℕ
+widthsOf gs = map (λ g. length (g .terms)) gs

@@ -1,4 +1,0 @@
-pub mod Named
-pub mod Storing
-pub mod Ways
-pub mod Unique

@@ -1,0 +1,17 @@
+pub mod Alone
+pub mod Carry
+pub mod Contain
+pub mod Demand3
+pub mod Differ
+pub mod Expand
+pub mod Extend
+pub mod Fit
+pub mod Freeze
+pub mod Held
+pub mod ListsOfRows
+pub mod Normal
+pub mod Part
+pub mod Places
+pub mod Same
+pub mod Sound
+pub mod Suit

@@ -1,0 +1,46 @@
+-- Any two results that meet a promise of this crate are equal. Of a part, where it lies and what it holds are settled: the rest of a reference's value is a name
+-- that only proofs see.
+use mathlib.Core.Path.{_≡_, ap, sym, _∙_}
+use mathlib.Core.List.{List, List-discrete}
+use Prim.Native.Nat.{ℕ, _<_}
+use native.Mathlib.Decide.{ℕ-discrete}
+use Rattle.spec.specs.Contents.{entriesIn}
+use Rattle.spec.specs.Refusals.{Loads}
+use Rattle.spec.proofs.Bytes.FirstFaults.{loads-unrefused, first-fault-unique}
+use Rattle.spec.specs.EntryPart.{Lent, LiesIn, EntryPart}
+use Rattle.spec.specs.Loading.{LoadSays}
+use Rattle.spec.specs.declared.Loaded.{Loaded}
+use Rattle.spec.specs.declared.Loaded.the-variants.{Good, Refused}
+
+-- `load`
+pub load-unique : (book : List ℕ) (r s : Loaded) → LoadSays book r → LoadSays book s → r ≡ s
+load-unique book (Good n) (Good m) p q = ap Good (p .1 ∙ sym (q .1))
+load-unique book (Good n) (Refused k) p q = absurd (loads-unrefused book k (p .0) q)
+load-unique book (Refused k) (Good n) p q = absurd (loads-unrefused book k (q .0) p)
+load-unique book (Refused k) (Refused l) p q = ap Refused (first-fault-unique book k l p q)
+
+-- Two parts that lie in the book at one place and hold the same bytes.
+pub record Same (p q : Lent) : Type 0 where
+  pub place : p .ptr ≡ q .ptr
+  pub bytes : p .now ≡ q .now
+
+same : (book : Lent) (from : ℕ) (bytes : List ℕ) (p q : Lent) → LiesIn book from bytes p → LiesIn book from bytes q → Same p q
+same book from bytes p q a b = record { place = λ i. ((a .block ∙ sym (b .block)) i, (a .place ∙ sym (b .place)) i); bytes = a .holds ∙ sym (b .holds) }
+
+-- Equality of bytes and of places can be decided, so it is enough to refute that the two differ.
+decided : {A : Type 0} → Dec A → ((A → ⊥) → ⊥) → A
+decided (yes a) f = a
+decided (no n) f = absurd (f n)
+
+-- `entry`: whether or not the book loads, the two parts cannot differ.
+module _ (book : Lent) (i : ℕ) (p q : Lent) (a : EntryPart book i p) (b : EntryPart book i q) where
+  never-differ : {A : Type 0} → (Same p q → A) → (A → ⊥) → ⊥
+  never-differ f n =
+      let none : Loads (book .now) → i < entriesIn (book .now) → ⊥ = λ l h. n (f (same book _ _ p q (a .own l h) (b .own l h))) in
+      n (f (same book _ _ p q (a .none none) (b .none none)))
+
+  pub entry-unique : Same p q
+  entry-unique = record {
+    place = λ k. (decided (ℕ-discrete (p .ptr .0) (q .ptr .0)) (never-differ (λ s j. s .place j .0)) k, decided (ℕ-discrete (p .ptr .1) (q .ptr .1)) (never-differ (λ s j. s .place j .1)) k);
+    bytes = decided (List-discrete ℕ-discrete (p .now) (q .now)) (never-differ (λ s. s .bytes));
+  }

@@ -1,4 +1,0 @@
-pub mod PairSteps
-pub mod AgainstSteps
-pub mod RowSteps
-pub mod Unique

@@ -1,0 +1,4 @@
+pub mod Chosen
+pub mod Passing
+pub mod Posed
+pub mod Pruning

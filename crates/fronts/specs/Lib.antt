@@ -1,2 +1,0 @@
-pub mod RowPlaces
-pub mod Steps

@@ -1,6 +1,0 @@
-pub mod Named
-pub mod Placing
-pub mod Storing
-pub mod Ways
-pub mod Rowed
-pub mod Unique

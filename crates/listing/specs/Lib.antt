@@ -1,3 +1,0 @@
-pub mod Placings
-pub mod Turns
-pub mod Listing

@@ -1,0 +1,5 @@
+pub mod Failure
+pub mod Outlook
+pub mod Seen
+pub mod Steps
+pub mod Taking

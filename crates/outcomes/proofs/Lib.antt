@@ -1,0 +1,10 @@
+pub mod AsRule
+pub mod Bounds
+pub mod Demand
+pub mod Grants
+pub mod Once
+pub mod Own
+pub mod Rooms
+pub mod Same
+pub mod Total
+pub mod Witnessed

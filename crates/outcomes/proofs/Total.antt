@@ -1,0 +1,71 @@
+-- Every book of bytes is given an answer or refused; 9 is decided by the list of all rows.
+use mathlib.Core.Path.{_≡_}
+use mathlib.Core.Logic.{_⊎_, inl, inr, ⊎-elim, _↔_}
+use mathlib.Core.List.{List}
+use Prim.Native.Nat.{ℕ, _<_, _≤_}
+use native.Mathlib.Omega.{arith}
+use native.Mathlib.Decide.{decLt}
+use lib.ListN.{length}
+use Rattle.spec.specs.Words.{_∈_, Term, Subgoal, Rule}
+use Rattle.spec.specs.Summaries.{Summaries}
+use Rattle.spec.specs.Order.{RowBefore}
+use Rattle.spec.specs.Answer.{Rewrites}
+use Rattle.spec.specs.Book.{Book, admittedOf}
+use Rattle.spec.proofs.Decided.Sound.{AllSafe}
+use Rattle.spec.proofs.Decided.Answered.{right-exists}
+use Rattle.spec.proofs.Decided.Orders.{rowOrder}
+use Rattle.spec.proofs.Lists.Rising.{ascending-rising}
+use Rattle.spec.proofs.Lists.Sublists.{sublist, is-sublist}
+use Rattle.spec.proofs.Decided.Rows.{allRows, allRows-sound, allRows-complete, allRows-ascending, allRows-enumerate}
+use Rattle.containment.proofs.Normal.{any-decided}
+use Rattle.spec.specs.Numbers.{Bytes}
+use Rattle.spec.specs.BookLayout.{SoundBook}
+use Rattle.spec.proofs.Bytes.Refused.{sound-or-refused}
+use Rattle.spec.proofs.Bytes.Refused as reading
+use Rattle.spec.specs.Table.{mostRows, answerRoom, witnessRoom, Fault1, Fault9, Refused, one, read, nine, ten}
+use Rattle.spec.specs.Given.{Given}
+use Rattle.outcomes.proofs.Grants.{value-safe}
+
+-- "more than 64 summary rows": the list of all rows has more
+pub fault-9 : (s : Summaries) (q : Rule ℕ) → AllSafe s → Fault9 s q ↔ (mostRows < length (allRows s q))
+fault-9 s q safe = (
+  λ f.
+      let rises = ascending-rising (f .rows) (f .ascending) in
+      let within = sublist RowBefore (length (f .rows)) (allRows s q) (allRows-enumerate s q safe .rising) (f .rows) (is-sublist rowOrder (allRows s q) (f .rows) (allRows-enumerate s q safe .rising) rises (λ g m. allRows-complete s q safe g (f .each g m))) in
+      omega (arith, f .many, within .few),
+  λ h. record { rows = allRows s q; each = allRows-sound s q; ascending = allRows-ascending s q; many = h },
+)
+
+module _ (book : List ℕ) (bytes : Bytes book) (answer witness : ℕ) where
+  abbrev pub Told : Type 0
+  Told = Given book answer witness ⊎ ((k : ℕ) × (p : ℕ) × Refused book answer witness k p)
+
+  sound-told : (Fault1 answer witness → ⊥) → (b : Book) → SoundBook book b → Told
+  sound-told room b s = go (decLt mostRows (length (allRows (admittedOf b) (b .question)))) (any-decided (admittedOf b) (b .question) safe)
+    where
+      safe : AllSafe (admittedOf b)
+      safe = value-safe (s .value)
+
+      few : (mostRows < length (allRows (admittedOf b) (b .question)) → ⊥) → Fault9 (admittedOf b) (b .question) → ⊥
+      few n f = n (fault-9 (admittedOf b) (b .question) safe .0 f)
+
+      go : Dec (mostRows < length (allRows (admittedOf b) (b .question))) → Dec ((l : List (Subgoal (Term ℕ))) × Rewrites (admittedOf b) (b .question) l) → Told
+      go (yes many) d = inr (9, 0, nine room b s (fault-9 (admittedOf b) (b .question) safe .1 many))
+      go (no n) (no never) = inr (10, 0, ten room b s (few n) (λ l r. never (l, r)))
+      go (no n) (yes w) = let r = right-exists (admittedOf b) (b .question) safe (w .0) (w .1) in inl record { room = room; value = b; sound = s; few = few n; result = r .0; right = r .1 }
+
+  room-decided : Dec (Fault1 answer witness)
+  room-decided = go (decLt answer answerRoom) (decLt witness witnessRoom)
+    where
+      go : Dec (answer < answerRoom) → Dec (witness < witnessRoom) → Dec (Fault1 answer witness)
+      go (yes a) d = yes (inl a)
+      go (no a) (yes w) = yes (inr w)
+      go (no a) (no w) = no (⊎-elim a w)
+
+  pub told : Told
+  told = go room-decided (sound-or-refused book bytes)
+    where
+      go : Dec (Fault1 answer witness) → ((b : Book) × SoundBook book b) ⊎ reading.Refused book → Told
+      go (yes f) d = inr (1, 0, one f)
+      go (no n) (inl s) = sound-told n (s .0) (s .1)
+      go (no n) (inr r) = inr (r .0, r .1, read n (r .2))

@@ -1,3 +1,0 @@
-pub mod Failure
-pub mod Outlook
-pub mod Seen

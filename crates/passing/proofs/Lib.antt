@@ -1,2 +1,0 @@
-pub mod Own
-pub mod Yes

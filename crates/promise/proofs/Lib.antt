@@ -1,5 +1,0 @@
-pub mod Grants
-pub mod Once
-pub mod Total
-pub mod Demand
-pub mod Rooms

@@ -1,1 +1,0 @@
-// No code: what rewriting a book of bytes promises, in specs/, and what follows from it, in proofs/.

@@ -1,3 +1,0 @@
-pub mod Tests
-pub mod Dropped
-pub mod Uses

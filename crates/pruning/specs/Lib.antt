@@ -1,2 +1,0 @@
-pub mod Posed
-pub mod Pruning

@@ -1,3 +1,0 @@
-pub mod Accepted
-pub mod Picked
-pub mod Steps

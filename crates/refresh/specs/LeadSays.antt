@@ -1,8 +1,0 @@
--- What each answer of `lead_of` says in the specification's words.
-use Rattle.words.specs.Refresh.{Lead as PaperLead, ahead, tie}
-use Rattle.refresh.specs.declared.Lead.{Lead}
-use Rattle.refresh.specs.declared.Lead.the-variants.{Ahead, Tie}
-
-abbrev pub leadSays : Lead → PaperLead
-leadSays (Ahead z) = ahead z
-leadSays Tie = tie

@@ -1,0 +1,4 @@
+pub mod Asked
+pub mod Dominance
+pub mod Dominators
+pub mod Targets

@@ -1,0 +1,67 @@
+// The task of choosing rows, posed for a sound book's question over all its summary rows.
+ghost use Prim.Native.Nat.{_≤_};
+ghost use Rattle.book_codes.specs.RowsGiven.{RowsGiven};
+ghost use Rattle.row_choice.specs.Asked.{Asked, RowsChosen};
+ghost use Rattle.row_choice.specs.Targets.{Targets, Owners};
+ghost use Rattle.row_choice.specs.Dominance.{Dominance};
+
+mod dominators; // which rows dominate a row
+
+use book_codes::question::question_bindings;
+use book_codes::question::question_source;
+use first_shortest::Chosen;
+use first_shortest::choose;
+use crate::dominators::dominators;
+use book_codes::uses::expand;
+use book_codes::uses::use_starts;
+
+// Of each row the set of rows that dominate it.
+fn dominance(book: &[u8], rows: &[u64], n: usize, target: &[u64]) -> [u64; 64]
+    requires { ⌜ RowsGiven (now book) (now rows) n × (n ≤ 64) × Targets (now book) (now rows) n (now target) ⌝ }
+    ensures { λ r. ⌜ Dominance (now (book .entry)) (now (rows .entry)) n r ⌝ }
+{
+    let mut starts = [0u16; 65];
+    use_starts(book, rows, n, &mut starts);
+    let mut table = [0u64; 64];
+    let mut r: usize = 0;
+    while r < n {
+        table[r] = dominators(book, rows, n, r, target, &starts);
+        r += 1;
+    }
+    table
+}
+
+// The rows are chosen, given the words of their uses.
+fn choose_onto(book: &[u8], rows: &[u64], n: usize, target: &[u64], own: &[u8]) -> Chosen
+    requires { ⌜ Asked (now book) (now rows) n × Targets (now book) (now rows) n (now target) × Owners (now book) (now rows) n (now own) ⌝ }
+    ensures { λ r. ⌜ RowsChosen (now (book .entry)) (now (rows .entry)) n r ⌝ }
+{
+    let mut source = [0u64; 108];
+    let mut widths = [0u8; 12];
+    let k = question_source(book, &mut source, &mut widths);
+    let lasts = [0u8; 12];
+    let b = question_bindings(book);
+    let dom = dominance(book, rows, n, target);
+    choose(
+        &source[..9 * k],
+        &widths[..k],
+        &lasts[..k],
+        target,
+        own,
+        b,
+        &dom,
+        n,
+    )
+}
+
+// The first of the shortest equivalent lists of the rows, by their numbers; or that there is none.
+pub fn choose_rows(book: &[u8], rows: &[u64], n: usize) -> Chosen
+    requires { ⌜ Asked (now book) (now rows) n ⌝ }
+    ensures { λ r. ⌜ RowsChosen (now (book .entry)) (now (rows .entry)) n r ⌝ }
+{
+    let mut target = [0u64; 4608];
+    let mut own = [0u8; 512];
+    let mut inner = [0u8; 512];
+    let goals = expand(book, rows, n, &mut target, &mut own, &mut inner);
+    choose_onto(book, rows, n, &target[..9 * goals], &own[..goals])
+}

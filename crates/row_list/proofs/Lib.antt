@@ -1,0 +1,11 @@
+pub mod AloneLaws
+pub mod Behind
+pub mod ListSteps
+pub mod OntoSteps
+pub mod RowsSteps
+pub mod SlotSteps
+pub mod SourceSteps
+pub mod TargetSteps
+pub mod TermsListed
+pub mod TurnLaws
+pub mod Unique

@@ -1,0 +1,90 @@
+-- The task of one summary's rows, as the words that are lent to the search.
+use mathlib.Core.Path.{_≡_, refl, sym, ap, _∙_}
+use mathlib.Core.List.{List, _∷_, map}
+use Prim.Native.Nat.{ℕ, zero, suc, _*_, _≤_}
+use native.Mathlib.Omega.{arith}
+use lib.ListN.{length, take, replicate, length-append, length-map}
+use lib.Seq.{length-take-le}
+use Rattle.spec.specs.Words.{Rule}
+use Rattle.codes.specs.Code.{slotCode, wordsOf, widthsOf}
+use Rattle.rule_codes.specs.Promises.{HeadCount}
+use Rattle.rule_codes.proofs.Stores.{front-length, front-again}
+use Rattle.rule_codes.proofs.WordLaws.{words-length}
+use Rattle.task.specs.Task.{Task, posed}
+use Rattle.summary_rows.specs.RowTask.{alone, placed, TaskOf}
+use Rattle.summary_rows.specs.RowsAfter.{Asked, Promised}
+use Rattle.summary_rows.specs.declared.Tally.{Tally}
+use Rattle.row_list.specs.Tasks.{SummaryIs, SourceWords}
+use Rattle.row_list.proofs.SourceSteps.{widths-count}
+use Rattle.row_list.specs.Placings.{Placing, SomePlacing, PlacedRows}
+
+pub zeros-take : (n m : ℕ) → n ≤ m → _≡_ {A = List ℕ} (take n (replicate m 0)) (replicate n 0)
+zeros-take zero m h = refl
+zeros-take (suc n) zero h = absurd (omega arith)
+zeros-take (suc n) (suc m) h = ap (λ l. 0 ∷ l) (zeros-take n m (omega arith))
+
+module _ {relations bytes target own : List ℕ} {found area : ℕ} (w : SomePlacing relations bytes target own found area)
+    {before source old widths : List ℕ} {n : ℕ} (s : SourceWords relations bytes before source old widths n) (wide : length before ≡ 144) (many : length old ≡ 16) where
+  few-goals : (v : Rule ℕ) → SummaryIs relations bytes v → length (placed v) ≤ 16
+  few-goals v i =
+      let heads = i .layout .within .short in
+      let goals = i .layout .within .few in
+      omega (arith, length-append (map alone (v .head)) (v .body), length-map (v .head) alone)
+
+  pub goals-few : n ≤ 16
+  goals-few = let v = w .rule in let i = w .is .summary in omega (arith, s .count v i, few-goals v i)
+
+  pub source-long : length source ≡ 144
+  source-long =
+      let v = w .rule in
+      let i = w .is .summary in
+      ap length (s .words v i) ∙ front-length (wordsOf slotCode (placed v)) before (omega (arith, words-length slotCode (placed v), few-goals v i)) ∙ wide
+
+  pub widths-long : length widths ≡ 16
+  widths-long =
+      let v = w .rule in
+      let i = w .is .summary in
+      ap length (s .widths v i) ∙ front-length (widthsOf (placed v)) old (omega (arith, widths-count (placed v), few-goals v i)) ∙ many
+
+  pub source-part : length (take (9 * n) source) ≡ 9 * n
+  source-part = length-take-le (9 * n) source (omega (arith, source-long, goals-few))
+
+  pub widths-part : length (take n widths) ≡ n
+  widths-part = length-take-le n widths (omega (arith, widths-long, goals-few))
+
+  pub lasts-part : length (take n (replicate {A = ℕ} 16 0)) ≡ n
+  lasts-part = length-take-le n (replicate 16 0) (omega (arith, goals-few))
+
+  abbrev lent : Task
+  lent = posed (take (9 * n) source) (take n widths) (take n (replicate 16 0)) target own
+
+  module _ {h : ℕ} (heads : HeadCount bytes h) where
+    task-of : (v q : Rule ℕ) (p : Placing relations bytes target own v q) → TaskOf v q (p .onto .terms) lent h
+    task-of v q p = record {
+      words = λ i. record { source = source-is i; widths = widths-is i; lasts = lasts-is i; target = p .onto .words i; own = p .onto .marks i };
+      long = sym (heads .is relations 8 v (p .summary .layout));
+      terms = p .onto .all .all;
+      few = p .onto .all .few;
+      arities = relations;
+      relations = p .known;
+      summary = p .summary .layout .within;
+      safe = p .safe;
+      plain = p .summary .plain;
+      question = p .question;
+    }
+      where
+        source-is : take (9 * n) source ≡ wordsOf slotCode (placed v)
+        source-is =
+            front-again (wordsOf slotCode (placed v)) before _ (9 * n) (s .words v (p .summary)) (omega (arith, words-length slotCode (placed v), s .count v (p .summary)))
+
+        widths-is : take n widths ≡ widthsOf (placed v)
+        widths-is = front-again (widthsOf (placed v)) old _ n (s .widths v (p .summary)) (widths-count (placed v) ∙ sym (s .count v (p .summary)))
+
+        lasts-is : _≡_ {A = List ℕ} (take n (replicate 16 0)) (replicate (length (placed v)) 0)
+        lasts-is = zeros-take n 16 goals-few ∙ ap (λ k. replicate k 0) (s .count v (p .summary))
+
+    pub rows-asked : Asked lent h found area
+    rows-asked = record { rule = w .rule; question = w .question; terms = w .is .onto .terms; task = task-of (w .rule) (w .question) (w .is); few = w .few; room = w .room }
+
+    pub rows-placed : {number : ℕ} {out after : List ℕ} {r : Tally} → Promised lent h number found out after r → PlacedRows relations bytes target own number found out after r
+    rows-placed a = record { rows = λ v q p. a .rows v q (p .onto .terms) (task-of v q p) }

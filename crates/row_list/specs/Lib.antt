@@ -1,0 +1,5 @@
+pub mod Alone
+pub mod Listing
+pub mod Placings
+pub mod Tasks
+pub mod Turns

@@ -1,0 +1,46 @@
+-- What stands where the rows of one summary are asked for: its head's places and its body as the source, the question's terms and its body as the target.
+use mathlib.Core.Path.{_≡_}
+use mathlib.Core.List.{List, map}
+use Prim.Native.Nat.{ℕ, _≤_}
+use lib.ListN.{length, replicate}
+use Rattle.spec.specs.Words.{Term, Rule, DistinctVariables}
+use Rattle.spec.specs.Order.{TermBefore}
+use Rattle.spec.proofs.Lists.Enumerate.{Enumerates}
+use Rattle.spec.specs.RuleLayout.{Layout}
+use Rattle.spec.specs.BookLayout.{questionMost, summaryMost}
+use Rattle.codes.specs.Code.{termCode, slotCode, wordsOf, widthsOf}
+use Rattle.rule_codes.specs.Codes.{atFront}
+use Rattle.search_meaning.specs.Coded.{In}
+use Rattle.summary_rows.specs.RowTask.{placed, onto}
+
+-- The bytes are a summary's: "a rule whose head is distinct variables".
+pub record SummaryIs (relations bytes : List ℕ) (v : Rule ℕ) : Type 0 where
+  pub layout : Layout relations summaryMost bytes v
+  pub plain : DistinctVariables (v .head)
+
+pub record SomeSummary (relations bytes : List ℕ) : Type 0 where
+  pub rule : Rule ℕ
+  pub is : SummaryIs relations bytes rule
+
+-- the slots of the head's variables, one after the other
+pub record HeadSlots (bytes slots : List ℕ) : Type 0 where
+  pub is : (relations : List ℕ) (v : Rule ℕ) → SummaryIs relations bytes v → slots ≡ atFront (map slotCode (v .head)) (replicate 8 0)
+
+-- The source's words and widths at the front of two areas; n source subgoals.
+pub record SourceWords (relations bytes before after old new : List ℕ) (n : ℕ) : Type 0 where
+  pub count : (v : Rule ℕ) → SummaryIs relations bytes v → n ≡ length (placed v)
+  pub words : (v : Rule ℕ) → SummaryIs relations bytes v → after ≡ atFront (wordsOf slotCode (placed v)) before
+  pub widths : (v : Rule ℕ) → SummaryIs relations bytes v → new ≡ atFront (widthsOf (placed v)) old
+
+-- The question's terms, "Variables sort before constants, each by number", each once.
+pub record TermsOf (q : Rule ℕ) (ts : List (Term ℕ)) : Type 0 where
+  pub all : Enumerates (λ t. In t (q .body)) TermBefore ts
+  -- 12 subgoals of at most 8 terms
+  pub few : length ts ≤ 96
+
+-- The target's words at the front of an area; n targets.
+pub record TargetWords (relations bytes before after : List ℕ) (n : ℕ) : Type 0 where
+  pub terms : (q : Rule ℕ) → Layout relations questionMost bytes q → List (Term ℕ)
+  pub all : (q : Rule ℕ) (l : Layout relations questionMost bytes q) → TermsOf q (terms q l)
+  pub count : (q : Rule ℕ) (l : Layout relations questionMost bytes q) → n ≡ length (onto (terms q l) q)
+  pub words : (q : Rule ℕ) (l : Layout relations questionMost bytes q) → after ≡ atFront (wordsOf termCode (onto (terms q l) q)) before

@@ -1,0 +1,90 @@
+// One summary and the question's body as a task of the search, in words: its mappings give the summary's rows.
+ghost use mathlib.Core.Path.{_≡_};
+ghost use Prim.Native.Nat.{_*_, _≤_};
+ghost use lib.ListN.{length, replicate};
+ghost use Rattle.rule_codes.specs.Codes.{atFront};
+ghost use Rattle.rule_codes.specs.Laid.{QuestionLaid};
+ghost use Rattle.row_list.specs.Alone.{aloneWord, aloneWords};
+ghost use Rattle.row_list.specs.Tasks.{SomeSummary, HeadSlots, SourceWords, TargetWords};
+use rule_codes::bodies::slot_words;
+use rule_codes::bodies::term_words;
+use rule_codes::questions::body_terms;
+use numbers::u32_at;
+use rule_codes::places::head_count;
+
+// The relation of a head's places and of the terms that they are placed on: no rule's, since relations are numbered from 0 and there are at most 32.
+const HEAD: u64 = 255;
+
+// The word where a subgoal's terms have ended.
+const NONE: u64 = 1;
+
+// Word k of a subgoal of one term.
+fn alone_word(word: u64, k: usize) -> u64
+    ensures { λ r. ⌜ r ≡ aloneWord word k ⌝ }
+{
+    if k == 0 {
+        return HEAD;
+    }
+    if k == 1 {
+        return word;
+    }
+    NONE
+}
+
+// A subgoal of one term for each of the words, at the front of `out`.
+fn put_alone(words: &[u64], out: &mut [u64])
+    requires { ⌜ 9 * length (now words) ≤ length (now out) ⌝ }
+    ensures { λ _. ⌜ now (out .exit) ≡ atFront (aloneWords (now (words .entry))) (now (out .entry)) ⌝ }
+{
+    let all = 9 * words.len();
+    let mut k: usize = 0;
+    while k < all {
+        out[k] = alone_word(words[k / 9], k % 9);
+        k += 1;
+    }
+}
+
+// The slots of a summary's head: its variables' numbers.
+fn head_slots(body: &[u8], relations: &[u8]) -> [u64; 8]
+    requires { ⌜ SomeSummary (now relations) (now body) ⌝ }
+    ensures { λ r. ⌜ HeadSlots (now (body .entry)) r ⌝ }
+{
+    let heads = head_count(body);
+    let mut slots = [0u64; 8];
+    let mut i: usize = 0;
+    while i < heads {
+        slots[i] = u32_at(body, 3 + 5 * i) as u64;
+        i += 1;
+    }
+    slots
+}
+
+// The source: the head's places, then the body. Its words and widths stand at the front of what is lent; a head's place has one term, which the widths
+// say from the start. Returns how many source subgoals there are.
+pub fn put_source(body: &[u8], relations: &[u8], source: &mut [u64], widths: &mut [u8]) -> usize
+    requires { ⌜ SomeSummary (now relations) (now body) × (144 ≤ length (now source)) × (now widths ≡ replicate 16 1) ⌝ }
+    ensures { λ r. ⌜ SourceWords (now (relations .entry)) (now (body .entry)) (now (source .entry)) (now (source .exit)) (now (widths .entry)) (now (widths .exit)) r ⌝ }
+{
+    let heads = head_count(body);
+    let slots = head_slots(body, relations);
+    put_alone(&slots[..heads], source);
+    heads
+        + slot_words(
+            body,
+            relations,
+            &mut source[9 * heads..],
+            &mut widths[heads..],
+        )
+}
+
+// The target: the question's terms in ascending order, then its body. Returns how many targets there are.
+pub fn put_target(body: &[u8], relations: &[u8], target: &mut [u64]) -> usize
+    requires { ⌜ QuestionLaid (now relations) (now body) × (972 ≤ length (now target)) ⌝ }
+    ensures { λ r. ⌜ TargetWords (now (relations .entry)) (now (body .entry)) (now (target .entry)) (now (target .exit)) r ⌝ }
+{
+    let mut terms = [0u64; 108];
+    let count = body_terms(body, relations, &mut terms);
+    put_alone(&terms[..count], target);
+    let mut widths = [0u8; 12];
+    count + term_words(body, relations, &mut target[9 * count..], &mut widths)
+}

@@ -1,4 +1,0 @@
-pub mod RowTask
-pub mod Steps
-pub mod RowsAfter
-pub mod Tables

@@ -1,0 +1,48 @@
+-- The builders' codes are those of crate coding: a table's and a base's.
+use mathlib.Core.Path.{_≡_, refl, ap, ap₂, _∙_}
+use mathlib.Core.List.{List, [], _∷_, _++_, map, map-map, List·Memᴰ·head, List·Memᴰ·tail}
+use Prim.Native.Nat.{ℕ}
+use native.Mathlib.Omega.{arith}
+use lib.ListN.{length-map}
+use Rattle.spec.specs.Words.{_∈_, Term, var, con, Subgoal, each}
+use Rattle.spec.proofs.Lists.Gathered.{map-same}
+use Rattle.spec.specs.RuleLayout.{TermWithin}
+use Rattle.codes.specs.Code.{variableTag, termCode, slotCode, padded, wordsOf, widthsOf}
+use Rattle.rule_codes.specs.Codes.{tabled, based, atFront}
+use Rattle.rule_codes.specs.Promises.{BodyWords}
+use Rattle.rule_codes.specs.Tables.{BaseTable}
+
+-- codes that agree on the terms give the same words
+pub words-same : {A : Type 0} (c d : A → ℕ) (gs : List (Subgoal A)) → ((g : Subgoal A) → g ∈ gs → (t : A) → t ∈ g .terms → c t ≡ d t) → wordsOf c gs ≡ wordsOf d gs
+words-same c d [] h = refl
+words-same c d (g ∷ gs) h =
+    ap₂ (λ ts l. (g .relation ∷ padded 8 ts) ++ l) (map-same c d (g .terms) (h g (List·Memᴰ·head refl))) (words-same c d gs (λ k m. h k (List·Memᴰ·tail m)))
+
+-- words of subgoals whose terms have become others
+pub words-each : {A B : Type 0} (code : B → ℕ) (f : A → B) (gs : List (Subgoal A)) → wordsOf code (map (each f) gs) ≡ wordsOf (λ t. code (f t)) gs
+words-each code f [] = refl
+words-each code f (g ∷ gs) = ap₂ (λ ts l. (g .relation ∷ padded 8 ts) ++ l) (map-map code f (g .terms)) (words-each code f gs)
+
+pub widths-each : {A B : Type 0} (f : A → B) (gs : List (Subgoal A)) → widthsOf (map (each f) gs) ≡ widthsOf gs
+widths-each f [] = refl
+widths-each f (g ∷ gs) = ap₂ _∷_ (length-map (g .terms) f) (widths-each f gs)
+
+-- from a base on
+pub based-slot : (t : Term ℕ) → based 0 t ≡ slotCode t
+based-slot (var x) = omega arith
+based-slot (con c) = refl
+
+pub based-term : (t : Term ℕ) → based variableTag t ≡ termCode t
+based-term (var x) = refl
+based-term (con c) = refl
+
+pub tabled-based : {base : ℕ} {table : List ℕ} → BaseTable base 32 table → (t : Term ℕ) → TermWithin t → tabled table t ≡ based base t
+tabled-based b (var x) h = b .word x h
+tabled-based b (con c) h = refl
+
+-- a builder's words by one code are those by another that agrees within the bounds
+pub recoded : {arities bytes before after : List ℕ} {n : ℕ} (c d : Term ℕ → ℕ) → ((t : Term ℕ) → TermWithin t → c t ≡ d t) → BodyWords arities bytes c before after n → BodyWords arities bytes d before after n
+recoded {before = before} c d h w = record {
+  count = w .count;
+  words = λ m r l. w .words m r l ∙ ap (λ ws. atFront ws before) (words-same c d (r .body) (λ g i t j. h t (l .within .body g i t j)));
+}

@@ -1,0 +1,16 @@
+pub mod CodeLaws
+pub mod Counts
+pub mod HeadSteps
+pub mod InOrderSteps
+pub mod NineSteps
+pub mod QuestionTerms
+pub mod SoFar
+pub mod Stores
+pub mod TableSteps
+pub mod TermSteps
+pub mod TermWords
+pub mod Unique
+pub mod UseLaws
+pub mod WalkSteps
+pub mod Walks
+pub mod WordLaws

@@ -1,0 +1,51 @@
+-- Words stored one after the other: into an area from a place on, and at the front of an area.
+use mathlib.Core.Path.{_≡_, refl, sym, ap, ap₂, _∙_}
+use mathlib.Core.Bool.{Bool, true, false, cond}
+use mathlib.Core.List.{List, [], _++_, append-nil}
+use Prim.Native.Nat.{ℕ, suc, _+_, _<_, _≤_}
+use native.Mathlib.Omega.{arith}
+use lib.ListN.{length, getD, take, drop, set, length-append, length-drop, drop-of-length-le}
+use lib.Seq.{sets, sets-eq, take-suc, take-at, take-all, length-take-le, take-append-seam, drop-append-add, drop-drop, getD-set-same, getD-set-other}
+use lib.Dec.{eqb}
+use borrow.Author.Tests.{eqb-true, eqb-false}
+use Rattle.rule_codes.specs.Codes.{atFront}
+use Rattle.spec.proofs.Lists.Stores.{sets-more}
+
+module _ (before : List ℕ) (to : ℕ) (words : List ℕ) where
+  -- the area with the first k words stored
+  pub stores-more : (k v : ℕ) → k < length words → v ≡ getD words k 0 → set (sets before to (take k words)) (to + k) v ≡ sets before to (take (suc k) words)
+  stores-more k v h e =
+      let n : length (take k words) ≡ k = length-take-le k words (omega arith) in
+      ap₂ (λ j w. set (sets before to (take k words)) (to + j) w) (sym n) e ∙ sets-more before to (take k words) (getD words k 0) ∙ ap (sets before to) (sym (take-suc words k 0 h))
+
+  pub stores-end : (k : ℕ) → length words ≤ k → sets before to (take k words) ≡ sets before to words
+  stores-end k h = ap (sets before to) (take-all k words h)
+
+-- all of an area stored
+pub stores-whole : (before words : List ℕ) → length words ≡ length before → sets before 0 words ≡ words
+stores-whole before words h = sets-eq words before 0 (omega arith) ∙ ap (λ l. words ++ l) (over (length words) before (omega arith)) ∙ append-nil words
+  where
+    over : (n : ℕ) (l : List ℕ) → length l ≤ n → drop (0 + n) l ≡ []
+    over n l h = let z : 0 + n ≡ n = omega arith in rw z (drop-of-length-le l h)
+
+-- more words at the front
+pub front-more : (front words all : List ℕ) → length front + length words ≤ length all → sets (atFront front all) (length front) words ≡ atFront (front ++ words) all
+front-more front words all h =
+    sets-eq words (atFront front all) (length front) (omega (arith, length-append front (drop (length front) all), length-drop (length front) all))
+    ∙ ap₂ (λ a b. (a ++ words) ++ b) (take-append-seam front (drop (length front) all)) (drop-append-add front (drop (length front) all) (length words) ∙ drop-drop (length words) (length front) all)
+    ∙ ap (λ n. (front ++ words) ++ drop n all) (sym (length-append front words))
+
+pub front-length : (front all : List ℕ) → length front ≤ length all → length (atFront front all) ≡ length all
+front-length front all h = omega (arith, length-append front (drop (length front) all), length-drop (length front) all)
+
+-- the front of an area, as it is read again
+pub front-again : (front before after : List ℕ) (n : ℕ) → after ≡ atFront front before → length front ≡ n → take n after ≡ front
+front-again front before after n e f = ap (take n) e ∙ take-at front _ n f
+
+-- what stands at a place after a store
+pub after-store : (l : List ℕ) (i v x : ℕ) → i < length l → getD (set l i v) x 0 ≡ cond (eqb i x) v (getD l x 0)
+after-store l i v x h = go (eqb i x) refl
+  where
+    go : (b : Bool) → eqb i x ≡ b → getD (set l i v) x 0 ≡ cond b v (getD l x 0)
+    go true e = let same : i ≡ x = eqb-true i x e in rw (sym same) (getD-set-same l i v 0 h)
+    go false e = getD-set-other l i x v 0 (λ q. eqb-false i x e (sym q))

@@ -1,0 +1,20 @@
+use borrow.Author.Needs.{needs}
+use Rattle.rule_codes.proofs.TableSteps.{old-variable, old-constant, above-tag}
+use Rattle.rule_codes.proofs.tables.old_word.Statement.{statement}
+use Rattle.rule_codes.proofs.tables.old_word.Tie as tie
+
+sub-result : tie.Need-sub-result
+sub-result c = above-tag (c .before .args .olds) _ (c .before .pre .0)
+
+returns : tie.Need-returns
+returns c = old-variable _ _ (c .if1 .taken)
+
+returns-2 : tie.Need-returns-2
+returns-2 c = old-constant _ _ (c .if1 .left)
+
+pub old-word-spec : {M : Type 1} → statement M
+old-word-spec = tie.close (tie.spec
+    sub-result
+    (λ c. search needs)
+    returns
+    returns-2)

@@ -1,0 +1,9 @@
+pub mod BodyTerms
+pub mod Codes
+pub mod Heads
+pub mod InOrder
+pub mod Laid
+pub mod Promises
+pub mod Steps
+pub mod Tables
+pub mod Uses

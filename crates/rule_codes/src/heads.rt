@@ -1,0 +1,43 @@
+// A rule's head: its words, and the bindings that send each of its variables to itself.
+ghost use Rattle.rule_codes.specs.Heads.{HeadWords, HeadBindings};
+ghost use Rattle.rule_codes.specs.Laid.{Laid};
+use crate::places::NONE;
+use crate::places::VARIABLE;
+use crate::places::head_count;
+use crate::places::padded_at;
+use crate::tables::base_table;
+
+// The words of the head's terms, and NONE where they have ended.
+pub fn head_words(body: &[u8]) -> [u64; 8]
+    requires { ⌜ Laid (now body) ⌝ }
+    ensures { λ r. ⌜ HeadWords (now (body .entry)) r ⌝ }
+{
+    let heads = head_count(body);
+    let table = base_table(VARIABLE);
+    let mut words = [NONE; 8];
+    let mut k: usize = 0;
+    while k < 8 {
+        words[k] = padded_at(body, 2, heads, k, &table);
+        k += 1;
+    }
+    words
+}
+
+// "head to head place by place": both witnesses begin with each head variable bound to its own word, and nothing else.
+pub fn head_bindings(body: &[u8]) -> [u64; 64]
+    requires { ⌜ Laid (now body) ⌝ }
+    ensures { λ r. ⌜ HeadBindings (now (body .entry)) r ⌝ }
+{
+    let heads = head_count(body);
+    let mut bound = [0u64; 64];
+    let mut next: usize = 0;
+    while next < heads {
+        let at = 2 + 5 * next;
+        next += 1;
+        if body[at] == 0 {
+            let x = numbers::u32_at(body, at + 1);
+            bound[x as usize] = VARIABLE + x as u64;
+        }
+    }
+    bound
+}

@@ -1,0 +1,54 @@
+// What stands where in a rule's bytes.
+ghost use mathlib.Core.Path.{_≡_};
+ghost use Prim.Native.Nat.{_<_};
+ghost use Rattle.rule_codes.specs.Laid.{Laid};
+ghost use Rattle.rule_codes.specs.Promises.{HeadCount, GoalCount};
+ghost use Rattle.rule_codes.specs.Steps.{SomeTerm, SomeTerms, WordAt, PaddedAt};
+use numbers::wide;
+
+// The tags of a variable and of a constant, in units of 2^32.
+pub const VARIABLE: u64 = 4294967296;
+
+pub const CONSTANT: u64 = 8589934592;
+
+// The word where a subgoal's terms have ended.
+pub const NONE: u64 = 1;
+
+// "one byte head length"
+pub fn head_count(body: &[u8]) -> usize
+    requires { ⌜ Laid (now body) ⌝ }
+    ensures { λ r. ⌜ HeadCount (now (body .entry)) r ⌝ }
+{
+    wide(body[0])
+}
+
+// "one byte subgoal count"
+pub fn goal_count(body: &[u8]) -> usize
+    requires { ⌜ Laid (now body) ⌝ }
+    ensures { λ r. ⌜ GoalCount (now (body .entry)) r ⌝ }
+{
+    wide(body[1])
+}
+
+// The word of the term at `at`; the table has the variables' words.
+pub fn word_at(body: &[u8], at: usize, table: &[u64; 32]) -> u64
+    requires { ⌜ SomeTerm (now body) at ⌝ }
+    ensures { λ r. ⌜ WordAt (now (body .entry)) at (now (table .entry)) r ⌝ }
+{
+    let n = numbers::u32_at(body, at + 1);
+    if body[at] == 1 {
+        return CONSTANT + n as u64;
+    }
+    table[n as usize]
+}
+
+// Word k of the terms from `at` on.
+pub fn padded_at(body: &[u8], at: usize, many: usize, k: usize, table: &[u64; 32]) -> u64
+    requires { ⌜ SomeTerms (now body) at many ⌝ }
+    ensures { λ r. ⌜ PaddedAt (now (body .entry)) at many k (now (table .entry)) r ⌝ }
+{
+    if k < many {
+        return word_at(body, at + 5 * k, table);
+    }
+    NONE
+}

@@ -1,0 +1,47 @@
+// Tables of the words of a rule's variables, 0 to 31.
+ghost use Rattle.rule_codes.specs.Codes.{Base};
+ghost use Rattle.rule_codes.specs.Laid.{SomeUse};
+ghost use Rattle.rule_codes.specs.Tables.{BaseTable, TermWord, OldWord, UseTable};
+use crate::places::CONSTANT;
+use crate::places::VARIABLE;
+use crate::places::head_count;
+
+// The variables count from the base on.
+pub fn base_table(base: u64) -> [u64; 32]
+    requires { ⌜ Base base ⌝ }
+    ensures { λ r. ⌜ BaseTable base 32 r ⌝ }
+{
+    let mut table = [0u64; 32];
+    let mut x: usize = 0;
+    while x < 32 {
+        table[x] = base + x as u64;
+        x += 1;
+    }
+    table
+}
+
+// A term's word where variables count from another base.
+fn old_word(word: u64, olds: u64) -> u64
+    requires { ⌜ TermWord word × Base olds ⌝ }
+    ensures { λ r. ⌜ OldWord olds word r ⌝ }
+{
+    if word < CONSTANT {
+        return word - VARIABLE + olds;
+    }
+    word
+}
+
+// The words of a summary's variables in one use: those of its head have the row's terms, the others count from the base on.
+pub fn use_table(body: &[u8], row: &[u64], olds: u64, base: u64) -> [u64; 32]
+    requires { ⌜ SomeUse (now body) (now row) × Base olds × Base base ⌝ }
+    ensures { λ r. ⌜ UseTable (now (body .entry)) (now (row .entry)) olds base r ⌝ }
+{
+    let mut table = base_table(base);
+    let mut i = head_count(body);
+    while 0 < i {
+        i -= 1;
+        let x = numbers::u32_at(body, 3 + 5 * i) as usize;
+        table[x] = old_word(row[i], olds);
+    }
+    table
+}

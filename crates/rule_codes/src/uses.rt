@@ -1,0 +1,53 @@
+// One use of a summary: its body's words in place of a summary subgoal.
+ghost use Prim.Native.Nat.{ℕ, _<_};
+ghost use lib.ListN.{length};
+ghost use Rattle.codes.specs.Code.{ownCode, ownSlot, keptSlot};
+ghost use Rattle.rule_codes.specs.Codes.{Base, basedUse};
+ghost use Rattle.rule_codes.specs.Laid.{UseFor};
+ghost use Rattle.rule_codes.specs.Uses.{UseWords};
+use crate::places::VARIABLE;
+use crate::subgoals::put_subgoals;
+use crate::tables::use_table;
+
+// The tag of a use's own variable, in units of 2^32.
+const FRESH: u64 = 12884901888;
+
+// The list's variables count from one base, the use's own from another.
+fn use_words(
+    body: &[u8],
+    relations: &[u8],
+    row: &[u64],
+    olds: u64,
+    base: u64,
+    out: &mut [u64],
+) -> usize
+    requires { ⌜ UseFor (now relations) (now body) (now row) (length (now out)) × Base olds × Base base ⌝ }
+    ensures { λ r. ⌜ ((u : ℕ) → UseWords (now (relations .entry)) (now (body .entry)) (now (row .entry)) (basedUse olds base) u (now (out .entry)) (now (out .exit)) r) ⌝ }
+{
+    let table = use_table(body, row, olds, base);
+    put_subgoals(body, relations, &table, out)
+}
+
+// Use u as a target: the row's terms as they are, and the use's own variables apart from every other use's. Returns how many subgoals there are.
+pub fn own_words(body: &[u8], relations: &[u8], row: &[u64], u: u64, out: &mut [u64]) -> usize
+    requires { ⌜ UseFor (now relations) (now body) (now row) (length (now out)) × (u < 64) ⌝ }
+    ensures { λ r. ⌜ UseWords (now (relations .entry)) (now (body .entry)) (now (row .entry)) ownCode u (now (out .entry)) (now (out .exit)) r ⌝ }
+{
+    use_words(body, relations, row, VARIABLE, FRESH + 32 * u, out)
+}
+
+// A use as a source: the list's variables are slots 0 to 31, the use's own 32 to 63.
+pub fn own_slots(body: &[u8], relations: &[u8], row: &[u64], out: &mut [u64]) -> usize
+    requires { ⌜ UseFor (now relations) (now body) (now row) (length (now out)) ⌝ }
+    ensures { λ r. ⌜ ((u : ℕ) → UseWords (now (relations .entry)) (now (body .entry)) (now (row .entry)) ownSlot u (now (out .entry)) (now (out .exit)) r) ⌝ }
+{
+    use_words(body, relations, row, 0, 32, out)
+}
+
+// A use as a source that keeps the list's terms: only the use's own variables are slots.
+pub fn kept_slots(body: &[u8], relations: &[u8], row: &[u64], out: &mut [u64]) -> usize
+    requires { ⌜ UseFor (now relations) (now body) (now row) (length (now out)) ⌝ }
+    ensures { λ r. ⌜ ((u : ℕ) → UseWords (now (relations .entry)) (now (body .entry)) (now (row .entry)) keptSlot u (now (out .entry)) (now (out .exit)) r) ⌝ }
+{
+    use_words(body, relations, row, VARIABLE, 0, out)
+}

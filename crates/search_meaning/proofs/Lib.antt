@@ -1,0 +1,17 @@
+pub mod AtPlaces
+pub mod AtWords
+pub mod Back
+pub mod Carried
+pub mod Dominance
+pub mod Feasibility
+pub mod General
+pub mod InUse
+pub mod Into
+pub mod OverTerms
+pub mod Owners
+pub mod Pairs
+pub mod Read
+pub mod Sizes
+pub mod Slots
+pub mod There
+pub mod UseOf

@@ -1,0 +1,5 @@
+pub mod Coded
+pub mod Codings
+pub mod HeadBound
+pub mod Tasks
+pub mod Uses

@@ -1,4 +1,0 @@
-pub mod Found
-pub mod Expanded
-pub mod ThereLaws
-pub mod Unique

@@ -1,4 +1,0 @@
-pub mod Slots
-pub mod Clear
-pub mod Judging
-pub mod Unique

@@ -1,3 +1,0 @@
-pub mod Task
-pub mod Taking
-pub mod Steps

@@ -1,0 +1,5 @@
+pub mod Bytes
+pub mod Decided
+pub mod Examples
+pub mod Lists
+pub mod Refresh

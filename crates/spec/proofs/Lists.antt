@@ -1,0 +1,12 @@
+pub mod Counted
+pub mod Enumerate
+pub mod Finite
+pub mod Gathered
+pub mod Joined
+pub mod Places
+pub mod Rising
+pub mod Sorted
+pub mod Stores
+pub mod Strict
+pub mod Sublists
+pub mod Tests

@@ -1,0 +1,2 @@
+pub mod Admits
+pub mod Leads

@@ -1,0 +1,25 @@
+-- What the answer on a whole book says, case by case.
+use mathlib.Core.Path.{_≡_}
+use mathlib.Core.List.{List}
+use Prim.Native.Nat.{ℕ}
+use Rattle.spec.specs.Book.{Book}
+use Rattle.spec.specs.BookLayout.{SoundBook}
+use Rattle.spec.specs.Refusals.{Refusal}
+use Rattle.spec.specs.declared.Reading.{Reading}
+use Rattle.spec.specs.declared.Reading.the-variants.{Sound, Refused}
+use Rattle.spec.specs.declared.Told.{Told}
+
+-- `Sound`: the bytes are the layout of a sound book's value. `Refused k p`: the refusal table's number and place.
+abbrev pub ReadingSays : List ℕ → Reading → Type 0
+ReadingSays book Sound = (b : Book) × SoundBook book b
+ReadingSays book (Refused k p) = Refusal book k p
+
+-- The same for callers in C: a sound book is number 0 at place 0, which is in no row of the table.
+abbrev pub toldOf : Reading → Told
+toldOf Sound = record { number = 0; place = 0 }
+toldOf (Refused k p) = record { number = k; place = p }
+
+pub record ToldSays (book : List ℕ) (told : Told) : Type 0 where
+  pub reading : Reading
+  pub says : ReadingSays book reading
+  pub is : told ≡ toldOf reading

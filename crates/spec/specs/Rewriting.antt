@@ -1,0 +1,28 @@
+-- What rewriting a book of bytes promises, case by case.
+use mathlib.Core.Path.{_≡_}
+use mathlib.Core.List.{List}
+use Prim.Native.Nat.{ℕ}
+use lib.ListN.{length}
+use Rattle.spec.specs.Table.{Refused}
+use Rattle.spec.specs.declared.Outcome.{Outcome}
+use Rattle.spec.specs.declared.Outcome.the-variants.{Done, Refused as RefusedWith}
+use Rattle.spec.specs.Given.{written, answerBytes, witnessBytes, Given}
+
+-- "An accepted answer is written to the answer area as a rule"; "Both lengths are returned; bytes past them stay."
+pub record Accepted (book answer answer′ witness witness′ : List ℕ) (n m : ℕ) : Type 0 where
+  pub given : Given book (length answer) (length witness)
+  pub answer-is : answer′ ≡ written (answerBytes (given .value .question) (given .result)) answer
+  pub witness-is : witness′ ≡ written (witnessBytes (given .result)) witness
+  pub answer-long : n ≡ length (answerBytes (given .value .question) (given .result))
+  pub witness-long : m ≡ length (witnessBytes (given .result))
+
+module _ (book answer answer′ witness witness′ : List ℕ) where
+  -- "A refusal returns number and place; no lent byte or record changes."
+  pub record TurnedDown (k p : ℕ) : Type 0 where
+    pub refused : Refused book (length answer) (length witness) k p
+    pub answer-stays : answer′ ≡ answer
+    pub witness-stays : witness′ ≡ witness
+
+  abbrev pub Rewriting : Outcome → Type 0
+  Rewriting (Done n m) = Accepted book answer answer′ witness witness′ n m
+  Rewriting (RefusedWith k p) = TurnedDown k p

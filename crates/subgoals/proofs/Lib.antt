@@ -1,4 +1,0 @@
-pub mod Marking
-pub mod TermSteps
-pub mod GoalSteps
-pub mod Runs

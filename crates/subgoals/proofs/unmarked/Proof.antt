@@ -1,9 +1,0 @@
-use Rattle.subgoals.proofs.Marking.{mark-constant}
-use Rattle.subgoals.proofs.unmarked.Statement.{statement}
-use Rattle.subgoals.proofs.unmarked.Tie as tie
-
-returns : tie.Need-returns
-returns c = λ n. mark-constant (c .args .m) n
-
-pub unmarked-spec : {M : Type 1} → statement M
-unmarked-spec = tie.close (tie.spec returns)

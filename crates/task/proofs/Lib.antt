@@ -1,0 +1,9 @@
+pub mod Chain
+pub mod Clear
+pub mod Crossing
+pub mod Going
+pub mod Guess
+pub mod Onward
+pub mod Slots
+pub mod Stepping
+pub mod Unique

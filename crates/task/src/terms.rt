@@ -1,0 +1,61 @@
+// Terms and slots: what a term stands for, which terms are alike, and what is bound where a use starts.
+ghost use mathlib.Core.Path.{_≡_};
+ghost use Prim.Native.Nat.{_<_, _≤_};
+ghost use lib.Dec.{eqb};
+ghost use lib.ListN.{length};
+ghost use Rattle.task.specs.Terms.{stood, noting, Opened};
+
+// Two terms are compared by tag, then by number.
+pub fn alike(x: u64, y: u64) -> bool
+    ensures { λ r. ⌜ r ≡ eqb x y ⌝ }
+{
+    if x / 4294967296 != y / 4294967296 {
+        return false;
+    }
+    x % 4294967296 == y % 4294967296
+}
+
+// How many of a subgoal's terms count.
+pub fn width(x: u8) -> usize
+    requires { ⌜ x ≤ 8 ⌝ }
+    ensures { λ r. ⌜ (r ≡ x) × (r ≤ 8) ⌝ }
+{
+    x as usize
+}
+
+// What a source term stands for so far: 0 for a slot that is not bound.
+pub fn stands(g: &[u64; 64], x: u64) -> u64
+    ensures { λ r. ⌜ r ≡ stood (now (g .entry)) x ⌝ }
+{
+    if x < 64 {
+        let slot = x as usize;
+        return g[slot];
+    }
+    x
+}
+
+// The set with the term's slot, if it is one.
+pub fn noted(set: u64, x: u64) -> u64
+    ensures { λ r. ⌜ r ≡ noting set x ⌝ }
+{
+    if x < 64 {
+        return bits::add(set, x as u32);
+    }
+    set
+}
+
+// Where a use has ended, the next one's own variables are not bound.
+// (That a lent array is as long as its type says is no fact that the kit gives, so it is asked for.)
+pub fn opened(g: &mut [u64; 64], last: u8)
+    requires { ⌜ length (now g) ≡ 64 ⌝ }
+    ensures { λ _. ⌜ Opened last (now (g .entry)) (now (g .exit)) ⌝ }
+{
+    if last == 0 {
+        return;
+    }
+    let mut x: usize = 32;
+    while x < 64 {
+        g[x] = 0;
+        x += 1;
+    }
+}

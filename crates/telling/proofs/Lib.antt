@@ -1,3 +1,0 @@
-pub mod BackLaws
-pub mod Sourced
-pub mod Unique

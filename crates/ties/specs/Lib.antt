@@ -1,5 +1,0 @@
-pub mod Coded
-pub mod Codings
-pub mod Uses
-pub mod Bounds
-pub mod Tasks

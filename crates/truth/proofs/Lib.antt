@@ -1,4 +1,0 @@
-pub mod Own
-pub mod Same
-pub mod Witnessed
-pub mod AsRule

@@ -1,1 +1,0 @@
-// No code: what the checker says yes to, in specs/, and what follows from it, in proofs/.

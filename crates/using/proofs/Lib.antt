@@ -1,3 +1,0 @@
-pub mod RowUse
-pub mod Stored
-pub mod Unique

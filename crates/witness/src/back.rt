@@ -1,0 +1,52 @@
+// "per rewriting subgoal and per subgoal of its summary, one byte: question subgoal".
+ghost use Prim.Native.Nat.{_+_, _≤_};
+ghost use lib.ListN.{length};
+ghost use Rattle.witness.specs.ThereTold.{Tells};
+ghost use Rattle.witness.specs.BackTold.{BackTold};
+ghost use Rattle.witness.specs.BackSteps.{FromServing, FromTold};
+use book_codes::question::question_bindings;
+use book_codes::question::question_target;
+use book_codes::uses::expand_back;
+use placing::first_places;
+use crate::bytes::put_places;
+
+// The uses' subgoals placed on the question's, from `at` on.
+fn back_from(
+    book: &[u8],
+    source: &[u64],
+    widths: &[u8],
+    lasts: &[u8],
+    out: &mut [u8],
+    at: usize,
+) -> usize
+    requires { ⌜ FromServing (now book) (now source) (now widths) (now lasts) × (at + 96 ≤ length (now out)) ⌝ }
+    ensures { λ r. ⌜ FromTold (now (book .entry)) (now (source .entry)) (now (widths .entry)) (now (lasts .entry)) at (now (out .entry)) (now (out .exit)) r ⌝ }
+{
+    let mut target = [0u64; 108];
+    let n = question_target(book, &mut target);
+    let own = [0u8; 12];
+    let b = question_bindings(book);
+    let places = first_places(source, widths, lasts, &target[..9 * n], &own[..n], b);
+    let goals = widths.len();
+    put_places(out, at, &places.ks, goals);
+    goals
+}
+
+// The second part of the witness of k rows that are equivalent to the question, from `at` on. Returns its length.
+pub fn put_back(book: &[u8], rows: &[u64], k: usize, out: &mut [u8], at: usize) -> usize
+    requires { ⌜ Tells (now book) (now rows) k × (at + 96 ≤ length (now out)) ⌝ }
+    ensures { λ r. ⌜ BackTold (now (book .entry)) (now (rows .entry)) k at (now (out .entry)) (now (out .exit)) r ⌝ }
+{
+    let mut source = [0u64; 864];
+    let mut widths = [0u8; 96];
+    let mut lasts = [0u8; 96];
+    let goals = expand_back(book, rows, k, &mut source, &mut widths, &mut lasts);
+    back_from(
+        book,
+        &source[..9 * goals],
+        &widths[..goals],
+        &lasts[..goals],
+        out,
+        at,
+    )
+}

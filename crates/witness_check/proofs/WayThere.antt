@@ -1,0 +1,5 @@
+pub mod Named
+pub mod Placing
+pub mod Rowed
+pub mod Storing
+pub mod Ways

@@ -1,9 +1,0 @@
--- What reading grants of the admitted summaries: refusal 7, "a rule isn't safe", has not been given.
-use mathlib.Core.Path.{_≡_}
-use mathlib.Core.Option.{some}
-use Prim.Native.Nat.{ℕ}
-use Rattle.words.specs.Words.{Rule, Safe}
-use Rattle.words.specs.Summaries.{Summaries, summary}
-
-abbrev pub AllSafe : Summaries → Type 0
-AllSafe s = (n : ℕ) (r : Rule ℕ) → summary s n ≡ some r → Safe r

@@ -1,1 +1,0 @@
-// No code: the words of the specification, as definitions in specs/.

@@ -1,3 +1,0 @@
-pub mod Stores
-pub mod Means
-pub mod WitnessStores
