@@ -1,7 +1,7 @@
 // Whether a summary of a sound book is admitted.
 ghost use Rattle.admission.specs.Admission.{HasSummary, SaysIn};
-use contents::fields::stamp_at;
 use crate::is_admitted;
+use contents::fields::stamp_at;
 
 // Whether summary i, counted from 1, is admitted.
 pub fn is_in(book: &[u8], i: usize) -> bool

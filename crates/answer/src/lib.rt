@@ -6,12 +6,14 @@ ghost use Rattle.answer.specs.Steps.{Puts, ChosenPut};
 mod picked; // the chosen rows, out of the words of all
 mod rule_bytes; // a rewriting as bytes
 
-use books::parts::part_of;
-use first_shortest::Chosen;
 use crate::picked::pick;
-use witness::there::put_there;
-use witness::back::put_back;
 use crate::rule_bytes::put_rule;
+use books::parts::part_of;
+use codes::QUESTION_CODES;
+use first_shortest::Chosen;
+use spec::QUESTION_GOALS;
+use witness::back::put_back;
+use witness::there::put_there;
 
 // The lengths of answer and witness.
 pub struct Lengths {
@@ -54,8 +56,8 @@ pub fn put_chosen(
 {
     let k = chosen.k;
     let picks = chosen.rows;
-    let mut words = [0u64; 108];
-    let mut widths = [0u8; 12];
+    let mut words = [0u64; QUESTION_CODES];
+    let mut widths = [0u8; QUESTION_GOALS];
     pick(rows, &picks, k, &mut words, &mut widths);
     put_all(book, &words, &widths, k, answer, witness)
 }

@@ -6,13 +6,20 @@ ghost use lib.Seq.{sets};
 ghost use Rattle.answer.specs.Picked.{Pickable, pickedWords, widthIn, pickedWidths};
 
 // How many terms a row has: a word of 1 stands where they have ended.
+use codes::NONE;
+use codes::SUBGOAL_CODES;
+use spec::MOST_ARITY;
+use spec::QUESTION_GOALS;
+
+const WIDEST: u8 = MOST_ARITY as u8;
+
 fn width_in(words: &[u64], r: usize) -> u8
     requires { ⌜ 9 * r + 9 ≤ length (now words) ⌝ }
     ensures { λ n. ⌜ n ≡ widthIn (now (words .entry)) (9 * r + 1) 8 ⌝ }
 {
     let mut n: u8 = 0;
-    while n < 8 {
-        if words[9 * r + 1 + n as usize] == 1 {
+    while n < WIDEST {
+        if words[SUBGOAL_CODES * r + 1 + n as usize] == NONE {
             return n;
         }
         n += 1;
@@ -26,14 +33,20 @@ fn copy_row(words: &[u64], r: usize, out: &mut [u64], i: usize)
     ensures { λ _. ⌜ now (out .exit) ≡ sets (now (out .entry)) (9 * i) (take 9 (drop (9 * r) (now (words .entry)))) ⌝ }
 {
     let mut a: usize = 0;
-    while a < 9 {
-        out[9 * i + a] = words[9 * r + a];
+    while a < SUBGOAL_CODES {
+        out[SUBGOAL_CODES * i + a] = words[SUBGOAL_CODES * r + a];
         a += 1;
     }
 }
 
 // The words and the widths of the rows picked, k of them.
-pub(crate) fn pick(words: &[u64], rows: &[u8; 12], k: usize, out: &mut [u64], widths: &mut [u8])
+pub(crate) fn pick(
+    words: &[u64],
+    rows: &[u8; QUESTION_GOALS],
+    k: usize,
+    out: &mut [u64],
+    widths: &mut [u8],
+)
     requires { ⌜ Pickable (now words) (now rows) k (now out) (now widths) ⌝ }
     ensures { λ _. ⌜ (now (out .exit) ≡ sets (now (out .entry)) 0 (pickedWords (now (words .entry)) (now (rows .entry)) 0 k)) × (now (widths .exit) ≡ sets (now (widths .entry)) 0 (pickedWidths (now (words .entry)) (now (rows .entry)) 0 k)) ⌝ }
 {

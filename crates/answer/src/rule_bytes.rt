@@ -6,10 +6,14 @@ ghost use lib.Seq.{sets};
 ghost use Rattle.answer.specs.Bytes.{tagOf, wordBytes, wordsBytes, rowBytes, rowsBytes, Rows, rewritingBytes, Writable};
 
 // 0 for a variable's word, 1 for a constant's.
+use codes::CONSTANT;
+use codes::SUBGOAL_CODES;
+use codes::UNIT;
+
 fn tag_byte(word: u64) -> u8
     ensures { λ r. ⌜ r ≡ tagOf word ⌝ }
 {
-    if word < 8589934592 { 0 } else { 1 }
+    if word < CONSTANT { 0 } else { 1 }
 }
 
 // A term: its tag, then its number in four bytes.
@@ -17,7 +21,7 @@ fn put_term(out: &mut [u8], at: usize, word: u64)
     requires { ⌜ at + 5 ≤ length (now out) ⌝ }
     ensures { λ _. ⌜ now (out .exit) ≡ sets (now (out .entry)) at (wordBytes word) ⌝ }
 {
-    let n = word % 4294967296;
+    let n = word % UNIT;
     let a = n / 256;
     let b = a / 256;
     let c = b / 256;
@@ -45,8 +49,8 @@ fn put_row(out: &mut [u8], at: usize, words: &[u64], r: usize, wide: usize)
     requires { ⌜ (at + 1 + 5 * wide ≤ length (now out)) × (9 * r + 1 + wide ≤ length (now words)) ⌝ }
     ensures { λ _. ⌜ now (out .exit) ≡ sets (now (out .entry)) at (rowBytes (now (words .entry)) r wide) ⌝ }
 {
-    out[at] = (words[9 * r] % 256) as u8;
-    put_terms(out, at + 1, words, 9 * r + 1, wide);
+    out[at] = (words[SUBGOAL_CODES * r] % 256) as u8;
+    put_terms(out, at + 1, words, SUBGOAL_CODES * r + 1, wide);
 }
 
 // k rows, one after the other; answers the place behind them.

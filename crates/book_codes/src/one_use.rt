@@ -8,10 +8,10 @@ ghost use Rattle.book_codes.specs.RowGiven.{RowGiven};
 ghost use Rattle.book_codes.specs.OneUse.{OneUse, OneCount, OneWidths};
 use books::parts::part_of;
 use rule_codes::bodies::body_widths;
+use rule_codes::places::goal_count;
 use rule_codes::uses::kept_slots;
 use rule_codes::uses::own_slots;
 use rule_codes::uses::own_words;
-use rule_codes::places::goal_count;
 
 // The bytes of the row's summary: "entry i + 1 summary i".
 fn summary_of<'a>(book: &'a [u8], row: &[u64]) -> &'a [u8]

@@ -3,9 +3,11 @@ ghost use Prim.Native.Nat.{_≤_};
 ghost use lib.ListN.{length};
 ghost use Rattle.book_codes.specs.Question.{SomeSound, QuestionSource, QuestionTarget, QuestionBound};
 use books::parts::part_of;
+use codes::SLOTS;
 use rule_codes::bodies::slot_words;
 use rule_codes::bodies::term_words;
 use rule_codes::heads::head_bindings;
+use spec::QUESTION_GOALS;
 
 // As a source: nine words and a width for each subgoal. Returns how many there are.
 pub fn question_source(book: &[u8], out: &mut [u64], widths: &mut [u8]) -> usize
@@ -20,12 +22,12 @@ pub fn question_target(book: &[u8], out: &mut [u64]) -> usize
     requires { ⌜ SomeSound (now book) × (108 ≤ length (now out)) ⌝ }
     ensures { λ r. ⌜ QuestionTarget (now (book .entry)) (now (out .entry)) (now (out .exit)) r ⌝ }
 {
-    let mut widths = [0u8; 12];
+    let mut widths = [0u8; QUESTION_GOALS];
     term_words(part_of(book, 1), part_of(book, 0), out, &mut widths)
 }
 
 // "head to head place by place": each variable of the head is bound to itself.
-pub fn question_bindings(book: &[u8]) -> [u64; 64]
+pub fn question_bindings(book: &[u8]) -> [u64; SLOTS]
     requires { ⌜ SomeSound (now book) ⌝ }
     ensures { λ r. ⌜ QuestionBound (now (book .entry)) r ⌝ }
 {

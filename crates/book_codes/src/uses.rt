@@ -11,6 +11,7 @@ use crate::marks::mark_end;
 use crate::one_use::own_use;
 use crate::one_use::slot_use;
 use crate::one_use::use_count;
+use codes::SUBGOAL_CODES;
 
 // As a target: of each subgoal its nine words, the number of its use and its place there. Returns how many subgoals there are.
 pub fn expand(
@@ -27,8 +28,8 @@ pub fn expand(
     let mut at: usize = 0;
     let mut r: usize = 0;
     while r < n {
-        let row = 9 * r;
-        let to = 9 * at;
+        let row = SUBGOAL_CODES * r;
+        let to = SUBGOAL_CODES * at;
         let goals = own_use(book, &rows[row..], r as u64, &mut out[to..]);
         fill(own, at, goals, r as u8);
         count_up(inner, at, goals);
@@ -53,8 +54,8 @@ pub fn expand_back(
     let mut at: usize = 0;
     let mut r: usize = 0;
     while r < n {
-        let row = 9 * r;
-        let to = 9 * at;
+        let row = SUBGOAL_CODES * r;
+        let to = SUBGOAL_CODES * at;
         let goals = slot_use(book, &rows[row..], &mut out[to..], &mut widths[at..]);
         mark_end(lasts, at, goals);
         at += goals;
@@ -72,7 +73,7 @@ pub fn use_starts(book: &[u8], rows: &[u64], n: usize, starts: &mut [u16])
     let mut r: usize = 0;
     starts[0] = 0;
     while r < n {
-        let row = 9 * r;
+        let row = SUBGOAL_CODES * r;
         at += use_count(book, &rows[row..]);
         r += 1;
         starts[r] = at as u16;

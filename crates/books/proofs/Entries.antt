@@ -14,7 +14,7 @@ use Rattle.spec.specs.Book.{Book}
 use Rattle.spec.specs.Numbers.{Bytes}
 use Rattle.spec.specs.BookLayout.{entries, SoundBook}
 use Rattle.spec.specs.Contents.{count, entriesIn, offsetAt, lengthAt, partAt}
-use Rattle.spec.specs.Refusals.{mostAt, SoundEntry, Reached, Refusal, six, seven, eight, Loads, Passes, Reads}
+use Rattle.spec.specs.Refusals.{mostAt, ofEntry, SoundEntry, Reached, Refusal, six, seven, eight, Loads, Passes, Reads}
 use Rattle.spec.proofs.Bytes.Within.{part-lent}
 use Rattle.spec.proofs.Bytes.BookUnique.{reads-unique, sound-exactly}
 use Rattle.rules.specs.declared.subgoals.Fault.{Fault}
@@ -55,7 +55,7 @@ module _ (book : List ℕ) (i : ℕ) where
   pub entry-sound : Verdicts Sound → SoundEntry book i
   entry-sound s = record { rule = s .rule; reads = s .layout; safe = s .safe; plain = λ h. s .plain (lt-ltb 1 i h) }
 
-  broken-six : Reached book i → ((r : Rule ℕ) → Reads book i r → ⊥) → (f : Fault) → Refusal book (refusalNumber (Broken f)) i
+  broken-six : Reached book i → ((r : Rule ℕ) → Reads book i r → ⊥) → (f : Fault) → Refusal book (ofEntry (refusalNumber (Broken f)) i)
   broken-six reached none Count = six reached none
   broken-six reached none Relation = six reached none
   broken-six reached none Tag = six reached none
@@ -63,7 +63,7 @@ module _ (book : List ℕ) (i : ℕ) where
   broken-six reached none Early = six reached none
   broken-six reached none Over = six reached none
 
-  pub entry-refused : Reached book i → (v : Verdict) → (v ≡ Sound → ⊥) → Verdicts v → Refusal book (refusalNumber v) i
+  pub entry-refused : Reached book i → (v : Verdict) → (v ≡ Sound → ⊥) → Verdicts v → Refusal book (ofEntry (refusalNumber v) i)
   entry-refused reached Sound n j = absurd (n refl)
   entry-refused reached (Broken f) n j = broken-six reached (j .none) f
   entry-refused reached Unsafe n j = seven reached (j .rule, j .layout, j .not-safe)

@@ -9,20 +9,28 @@ ghost use Rattle.books.specs.Entries.{summaryAt};
 
 pub mod parts; // entries of a book that loads
 
-use spec::Loaded;
 use contents::fields::entries_of;
 use contents::fields::length_at;
 use contents::fields::offset_at;
+use contents::reasons::of_book;
+use contents::reasons::of_entry;
 use rules::Fault;
 use rules::Verdict;
+use spec::Loaded;
+use spec::QUESTION_GOALS;
 use spec::Reading;
-use spec::Told;
+use spec::Reason;
+use spec::SUMMARY_GOALS;
 
 // How many subgoals the rule of an entry may have: entry 1 is the question.
 fn most_at(i: usize) -> usize
     ensures { λ r. ⌜ r ≡ mostAt i ⌝ }
 {
-    if i <= 1 { 12 } else { 8 }
+    if i <= 1 {
+        QUESTION_GOALS
+    } else {
+        SUMMARY_GOALS
+    }
 }
 
 // The paper's number for each way to break the layout.
@@ -78,7 +86,7 @@ fn read_rules(book: &[u8], n: usize) -> Reading
     while i < all {
         let verdict = judge_entry(book, i);
         let Verdict::Sound = verdict else {
-            return Reading::Refused(number_of(verdict), i);
+            return Reading::Refused(of_entry(number_of(verdict), i));
         };
         i += 1;
     }
@@ -90,25 +98,23 @@ pub fn read_book(book: &[u8]) -> Reading
     ensures { λ r. ⌜ ReadingSays (now (book .entry)) r ⌝ }
 {
     match contents::load(book) {
-        Loaded::Refused(k) => Reading::Refused(k, 0),
+        Loaded::Refused(why) => Reading::Refused(why),
         Loaded::Good(n) => read_rules(book, n),
     }
 }
 
-fn tell(reading: Reading) -> Told
+// The same for callers in C.
+fn tell(reading: Reading) -> Reason
     ensures { λ r. ⌜ r ≡ toldOf reading ⌝ }
 {
     match reading {
-        Reading::Sound => Told {
-            number: 0,
-            place: 0,
-        },
-        Reading::Refused(number, place) => Told { number, place },
+        Reading::Sound => of_book(0),
+        Reading::Refused(why) => why,
     }
 }
 
 #[no_mangle]
-pub extern "C" fn tunesatchel_read_book(book: &[u8]) -> Told
+pub extern "C" fn tunesatchel_read_book(book: &[u8]) -> Reason
     ensures { λ r. ⌜ ToldSays (now (book .entry)) r ⌝ }
 {
     tell(read_book(book))

@@ -10,7 +10,7 @@ use Rattle.spec.specs.Summaries.{orEmpty, rewriting}
 use Rattle.spec.specs.Answer.{There, Back}
 use Rattle.spec.specs.Book.{Book, admittedOf}
 use Rattle.spec.specs.BookLayout.{SoundBook, questionMost}
-use Rattle.spec.specs.Refusals.{Refusal}
+use Rattle.spec.specs.declared.Reason.{Reason}
 use Rattle.spec.proofs.Bytes.BookUnique.{book-unique}
 use Rattle.spec.proofs.Bytes.Refused.{sound-unrefused}
 use Rattle.codes.specs.Code.{termCode, wordsOf}
@@ -100,5 +100,5 @@ module _ {book : List ℕ} {r : Reading} (says : ReadingSays book r) where
   pub read-sound : r ≡ Sound → SomeSound book
   read-sound e = let v = subst (ReadingSays book) e says in record { value = v .0; sound = v .1 }
 
-  pub read-refused : {bytes witness : List ℕ} {k p : ℕ} → r ≡ Refused k p → Checks book bytes witness false
+  pub read-refused : {bytes witness : List ℕ} {why : Reason} → r ≡ Refused why → Checks book bytes witness false
   read-refused e = record { exactly = exactly-no (λ t. sound-unrefused (t .sound) (subst (ReadingSays book) e says)) }

@@ -6,6 +6,7 @@ ghost use Rattle.checker.specs.Lengths.{HeadAt, HeadsTo};
 use books::parts::part_of;
 use contents::fields::count_of;
 use rule_codes::places::head_count;
+use spec::MOST_SUMMARIES;
 
 // The head of summary i, counted from 1: "entry i + 1 summary i".
 fn head_at(book: &[u8], i: usize) -> u8
@@ -16,12 +17,12 @@ fn head_at(book: &[u8], i: usize) -> u8
 }
 
 // Entry i of the table is the length of the head of summary i; entry 0 is 0, since "Summaries are numbered from 1".
-pub(crate) fn head_lengths(book: &[u8]) -> [u8; 65]
+pub(crate) fn head_lengths(book: &[u8]) -> [u8; MOST_SUMMARIES + 1]
     requires { ⌜ SomeSound (now book) ⌝ }
     ensures { λ r. ⌜ HeadsTo (now (book .entry)) (count (now (book .entry))) r ⌝ }
 {
     let n = count_of(book);
-    let mut table = [0u8; 65];
+    let mut table = [0u8; MOST_SUMMARIES + 1];
     let mut i: usize = 0;
     while i < n {
         i += 1;

@@ -8,13 +8,13 @@ mod head_lengths; // how long the summaries' heads are
 mod proposal; // the rewriting that is given, read as rows
 mod tests; // layout, head, admission
 
-use spec::Reading;
+use crate::proposal::propose;
 use books::parts::part_of;
 use books::read_book;
+use rule_codes::places::goal_count;
+use spec::Reading;
 use witness_check::back::comes_back;
 use witness_check::there::goes_there;
-use crate::proposal::propose;
-use rule_codes::places::goal_count;
 
 // How many subgoals the question of a sound book has.
 fn question_goals(book: &[u8]) -> usize
@@ -57,7 +57,7 @@ pub fn check(book: &[u8], rewriting: &[u8], witness: &[u8]) -> bool
     ensures { λ r. ⌜ Checks (now (book .entry)) (now (rewriting .entry)) (now (witness .entry)) r ⌝ }
 {
     match read_book(book) {
-        Reading::Refused(_, _) => false,
+        Reading::Refused(_) => false,
         Reading::Sound => check_sound(book, rewriting, witness),
     }
 }

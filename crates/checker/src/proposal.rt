@@ -3,20 +3,20 @@ ghost use mathlib.Core.Path.{_≡_};
 ghost use Rattle.book_codes.specs.Question.{SomeSound};
 ghost use Rattle.checker.specs.Proposed.{noRows, Given, Proposed};
 ghost use Rattle.checker.specs.Lengths.{HeadsAre};
-
-
-use books::parts::part_of;
-use rule_codes::bodies::term_words;
-use contents::fields::count_of;
 use crate::head_lengths::head_lengths;
 use crate::tests::all_admitted;
 use crate::tests::is_laid_out;
 use crate::tests::same_heads;
+use books::parts::part_of;
+use codes::QUESTION_CODES;
+use contents::fields::count_of;
+use rule_codes::bodies::term_words;
+use spec::QUESTION_GOALS;
 
 // The rewriting's rows, so many, nine words each at the front and zeros behind them; or none.
 pub struct Proposal {
     pub count: usize,
-    pub words: [u64; 108],
+    pub words: [u64; QUESTION_CODES],
 }
 
 fn none() -> Proposal
@@ -24,7 +24,7 @@ fn none() -> Proposal
 {
     Proposal {
         count: 0,
-        words: [0u64; 108],
+        words: [0u64; QUESTION_CODES],
     }
 }
 
@@ -33,8 +33,8 @@ fn read_rows(book: &[u8], rewriting: &[u8], lengths: &[u8]) -> Proposal
     requires { ⌜ Given (now book) (now rewriting) (now lengths) ⌝ }
     ensures { λ r. ⌜ Proposed (now (book .entry)) (now (rewriting .entry)) r ⌝ }
 {
-    let mut words = [0u64; 108];
-    let mut widths = [0u8; 12];
+    let mut words = [0u64; QUESTION_CODES];
+    let mut widths = [0u8; QUESTION_GOALS];
     let count = term_words(rewriting, lengths, &mut words, &mut widths);
     if all_admitted(book, &words, count) {
         return Proposal { count, words };

@@ -5,16 +5,19 @@ ghost use Rattle.book_codes.specs.Question.{SomeSound};
 ghost use Rattle.rule_codes.specs.Laid.{Laid};
 ghost use Rattle.checker.specs.Tests.{LaidOut, SameHeads, Admits, AdmitsAll};
 use admission::summaries::is_in;
-use rule_codes::heads::head_words;
+use codes::SUBGOAL_CODES;
 use contents::fields::count_of;
+use rule_codes::heads::head_words;
 use rules::Verdict;
 use rules::judge;
+use spec::MOST_HEAD;
+use spec::QUESTION_GOALS;
 
 // Whether the bytes are one whole rule of 1 to 12 subgoals over summaries whose heads are so long; whether it is safe is not asked here.
 pub(crate) fn is_laid_out(rewriting: &[u8], lengths: &[u8]) -> bool
     ensures { λ r. ⌜ LaidOut (now (lengths .entry)) (now (rewriting .entry)) r ⌝ }
 {
-    match judge(rewriting, lengths, 12, false) {
+    match judge(rewriting, lengths, QUESTION_GOALS, false) {
         Verdict::Sound => true,
         Verdict::Unsafe => true,
         Verdict::Repeats => true,
@@ -30,7 +33,7 @@ pub(crate) fn same_heads(a: &[u8], b: &[u8]) -> bool
     let x = head_words(a);
     let y = head_words(b);
     let mut k: usize = 0;
-    while k < 8 {
+    while k < MOST_HEAD {
         if x[k] != y[k] {
             return false;
         }
@@ -60,7 +63,7 @@ pub(crate) fn all_admitted(book: &[u8], words: &[u64], count: usize) -> bool
 {
     let mut i: usize = 0;
     while i < count {
-        if !admits(book, words[9 * i] as usize) {
+        if !admits(book, words[SUBGOAL_CODES * i] as usize) {
             return false;
         }
         i += 1;

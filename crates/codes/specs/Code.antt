@@ -43,6 +43,10 @@ keptSlot (var (old x)) = variableTag + x
 keptSlot (var (fresh u x)) = x
 keptSlot (con c) = constantTag + c
 
+-- A subgoal is nine codes: its relation, and as many terms as the widest relation has.
+abbrev pub subgoalSize : ℕ
+subgoalSize = 9
+
 -- eight words: those of the list, and 1 where it has ended
 abbrev pub padded : ℕ → List ℕ → List ℕ
 padded zero l = []

@@ -5,9 +5,9 @@ use crate::bytes::number_at;
 use crate::text::end_line;
 use crate::text::print_after;
 use crate::text::print_text;
-use spec::Lead;
 use admission::lead_of;
 use admission::size_of;
+use spec::Lead;
 
 // The stamp of an entry: entry 1 is the question, whose stamp is the need.
 fn stamp_of(book: &[u8], entry: usize) -> u32

@@ -7,7 +7,6 @@ mod text; // texts and numbers
 mod witness; // its two parts
 
 use crate::bytes::count_at;
-use contents::entry;
 use crate::leads::print_leads;
 use crate::rewriting::print_rewriting;
 use crate::text::end_line;
@@ -16,6 +15,7 @@ use crate::text::print_number;
 use crate::text::print_spaced;
 use crate::witness::print_back;
 use crate::witness::print_there;
+use contents::entry;
 
 // The line of a refusal.
 pub fn print_refusal(number: u8, place: usize) {

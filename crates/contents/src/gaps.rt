@@ -4,10 +4,10 @@ ghost use Prim.Native.Nat.{_<_};
 ghost use Rattle.spec.specs.Contents.{count, NoGaps};
 ghost use Rattle.spec.specs.Refusals.{Fault4};
 ghost use Rattle.contents.specs.Entries.Steps.{StepSays};
-use crate::steps::Step;
 use crate::fields::entries_of;
 use crate::fields::length_at;
 use crate::fields::offset_at;
+use crate::steps::Step;
 
 pub fn no_gaps(book: &[u8], n: usize) -> Step
     requires { ⌜ (n ≡ count (now book)) × (n < 65536) ⌝ }

@@ -4,42 +4,42 @@ ghost use Rattle.spec.specs.EntryPart.{EntryPart};
 
 pub mod fields; // count, offset, length and stamp, as numbers
 mod gaps; // the rule of no gaps
+pub mod reasons; // refusals as they are told
 mod relations; // entry 0
 mod steps; // what a step of the loading answers
 pub mod table; // the contents as records in a lent table
 
-use crate::steps::Step;
 use crate::fields::count_of;
 use crate::fields::entries_of;
 use crate::fields::length_at;
 use crate::fields::offset_at;
 use crate::gaps::no_gaps;
+use crate::reasons::of_book;
 use crate::relations::right_relations;
+use crate::steps::Step;
+use spec::LONGEST_BOOK;
 use spec::Loaded;
-
-const LONGEST: usize = 25040;
-
-const MOST_SUMMARIES: usize = 64;
+use spec::MOST_SUMMARIES;
 
 pub fn load(book: &[u8]) -> Loaded
     ensures { λ r. ⌜ LoadSays (now (book .entry)) r ⌝ }
 {
     let size = book.len();
     if size < 2 {
-        return Loaded::Refused(2);
+        return Loaded::Refused(of_book(2));
     }
-    if LONGEST < size {
-        return Loaded::Refused(2);
+    if LONGEST_BOOK < size {
+        return Loaded::Refused(of_book(2));
     }
     let n = count_of(book);
     if MOST_SUMMARIES < n {
-        return Loaded::Refused(3);
+        return Loaded::Refused(of_book(3));
     }
     let Step::Passed = no_gaps(book, n) else {
-        return Loaded::Refused(4);
+        return Loaded::Refused(of_book(4));
     };
     let Step::Passed = right_relations(book) else {
-        return Loaded::Refused(5);
+        return Loaded::Refused(of_book(5));
     };
     Loaded::Good(n)
 }

@@ -3,16 +3,16 @@ ghost use Rattle.spec.specs.BookLayout.{Arities};
 ghost use Rattle.spec.specs.Contents.{NoGaps, RightRelations};
 ghost use Rattle.spec.specs.Refusals.{Fault5};
 ghost use Rattle.contents.specs.Entries.Steps.{StepSays};
-use crate::steps::Step;
 use crate::fields::length_at;
 use crate::fields::offset_at;
 use crate::fields::stamp_at;
-
-const MOST_RELATIONS: usize = 32;
+use crate::steps::Step;
+use spec::MOST_ARITY;
+use spec::MOST_RELATIONS;
 
 const LEAST_ARITY: u8 = 1;
 
-const MOST_ARITY: u8 = 8;
+const WIDEST: u8 = MOST_ARITY as u8;
 
 fn right_arities(part: &[u8]) -> Step
     ensures { λ r. ⌜ StepSays (Arities (now (part .entry))) (Arities (now (part .entry)) → ⊥) r ⌝ }
@@ -29,7 +29,7 @@ fn right_arities(part: &[u8]) -> Step
         if part[i] < LEAST_ARITY {
             return Step::Fault;
         }
-        if MOST_ARITY < part[i] {
+        if WIDEST < part[i] {
             return Step::Fault;
         }
         i += 1;

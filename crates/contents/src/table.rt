@@ -1,40 +1,36 @@
-// The contents of a book as records: a lent table of entry records, filled, or left as it was with the refusal's number.
+// The contents of a book as records: a lent table of entry records, filled, or left as it was and the refusal told.
 ghost use mathlib.Core.Path.{_≡_};
 ghost use Prim.Native.Nat.{_+_, _*_, _≤_, _<_};
 ghost use lib.ListN.{length};
 ghost use Rattle.spec.specs.TableLoading.{JudgeSays, LoadingSays, recordAt};
 ghost use Rattle.contents.specs.Records.{recordsOf, Few};
-use spec::Loaded;
 use crate::fields::entries_of;
 use crate::fields::length_at;
 use crate::fields::offset_at;
 use crate::fields::stamp_at;
+use crate::reasons::of_book;
 use spec::Entry;
-use spec::Loading;
-
-const LEAST_TABLE: usize = 66;
+use spec::Loaded;
+use spec::TABLE_ROOM;
 
 // What is to be said of the book and of a table of `room` records: the table is tested first.
-fn judge_table(book: &[u8], room: usize) -> Loading
+fn judge_table(book: &[u8], room: usize) -> Loaded
     ensures { λ r. ⌜ JudgeSays (now (book .entry)) room r ⌝ }
 {
-    if room < LEAST_TABLE {
-        return Loading::Refused(1);
+    if room < TABLE_ROOM {
+        return Loaded::Refused(of_book(1));
     }
-    match crate::load(book) {
-        Loaded::Good(n) => Loading::Good(n),
-        Loaded::Refused(k) => Loading::Refused(k),
-    }
+    crate::load(book)
 }
 
 // How many records are to be written: none where the book or the table is refused.
-fn records_of(said: Loading) -> usize
+fn records_of(said: Loaded) -> usize
     requires { ⌜ Few said ⌝ }
     ensures { λ r. ⌜ r ≡ recordsOf said ⌝ }
 {
     match said {
-        Loading::Good(n) => entries_of(n),
-        Loading::Refused(_) => 0,
+        Loaded::Good(n) => entries_of(n),
+        Loaded::Refused(_) => 0,
     }
 }
 
@@ -54,7 +50,7 @@ fn record_at(book: &[u8], i: usize) -> Entry
 }
 
 // The loader: the one function over the lent table. All that is to be decided is decided before its loop, so that a refusal is a loop of no turns.
-pub fn load_table(book: &[u8], table: &mut [Entry]) -> Loading
+pub fn load_table(book: &[u8], table: &mut [Entry]) -> Loaded
     ensures { λ r. ⌜ LoadingSays (now (book .entry)) (now (table .entry)) (now (table .exit)) r ⌝ }
 {
     let said = judge_table(book, table.len());

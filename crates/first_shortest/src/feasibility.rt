@@ -6,6 +6,9 @@ ghost use Rattle.placing.specs.FirstPlaces.{Enough};
 ghost use Rattle.first_shortest.specs.Pruning.{Spared, Pruned, PosedWith, Uses, TellsDominance};
 
 // Without the row, if another that is used or may be dominates it; `over` has the rows that do.
+use codes::SLOTS;
+use spec::MOST_ROWS;
+
 fn spared(used: u64, may: u64, over: u64, row: usize) -> u64
     requires { ⌜ row < 64 ⌝ }
     ensures { λ r. ⌜ Spared used may over row r ⌝ }
@@ -19,7 +22,7 @@ fn spared(used: u64, may: u64, over: u64, row: usize) -> u64
 }
 
 // The rows that may be taken, less those that others dominate. One row is dropped at a time: of two that dominate each other one stays.
-fn pruned(dom: &[u64; 64], n: usize, used: u64, may: u64) -> u64
+fn pruned(dom: &[u64; MOST_ROWS], n: usize, used: u64, may: u64) -> u64
     requires { ⌜ n ≤ 64 ⌝ }
     ensures { λ r. ⌜ Pruned (now (dom .entry)) n used may r ⌝ }
 {
@@ -40,8 +43,8 @@ pub fn can(
     lasts: &[u8],
     target: &[u64],
     own: &[u8],
-    b: [u64; 64],
-    dom: &[u64; 64],
+    b: [u64; SLOTS],
+    dom: &[u64; MOST_ROWS],
     n: usize,
     used: u64,
     may: u64,
@@ -59,6 +62,6 @@ pub fn dominates(source: &[u64], widths: &[u8], lasts: &[u8], target: &[u64], ow
     requires { ⌜ Uses (posed (now source) (now widths) (now lasts) (now target) (now own)) ⌝ }
     ensures { λ r. ⌜ TellsDominance (posed (now (source .entry)) (now (widths .entry)) (now (lasts .entry)) (now (target .entry)) (now (own .entry))) r ⌝ }
 {
-    let r = placing::first_places(source, widths, lasts, target, own, [0u64; 64]);
+    let r = placing::first_places(source, widths, lasts, target, own, [0u64; SLOTS]);
     r.ok
 }

@@ -5,15 +5,20 @@ ghost use Rattle.task.specs.Task.{posed};
 ghost use Rattle.first_shortest.specs.Pruning.{PosedWith};
 ghost use Rattle.first_shortest.specs.Chosen.{Chooses};
 ghost use Rattle.first_shortest.specs.Passing.{nothing, found, starting, taking, passing, Fewest, Tried, Underway};
+use codes::SLOTS;
+use spec::MOST_ROWS;
+use spec::QUESTION_GOALS;
+
+// As many rows as never do: told where none of up to twelve can.
+const TOO_FEW: usize = QUESTION_GOALS + 1;
 
 pub mod feasibility; // whether rows can do; whether a row dominates another
-
 
 // How many rows are chosen, and their numbers, in order; or that no list of rows will do.
 pub struct Chosen {
     pub ok: bool,
     pub k: usize,
-    pub rows: [u8; 12],
+    pub rows: [u8; QUESTION_GOALS],
 }
 
 // Underway: the rows taken, those that may still be, and how many are left to take.
@@ -22,7 +27,7 @@ struct Pass {
     may: u64,
     left: usize,
     k: usize,
-    rows: [u8; 12],
+    rows: [u8; QUESTION_GOALS],
 }
 
 fn none() -> Chosen
@@ -31,7 +36,7 @@ fn none() -> Chosen
     Chosen {
         ok: false,
         k: 0,
-        rows: [0u8; 12],
+        rows: [0u8; QUESTION_GOALS],
     }
 }
 
@@ -56,7 +61,7 @@ fn start(n: usize, k: usize) -> Pass
         may: bits::below(n as u32),
         left: k,
         k: 0,
-        rows: [0u8; 12],
+        rows: [0u8; QUESTION_GOALS],
     }
 }
 
@@ -99,19 +104,31 @@ fn fewest(
     lasts: &[u8],
     target: &[u64],
     own: &[u8],
-    b: [u64; 64],
-    dom: &[u64; 64],
+    b: [u64; SLOTS],
+    dom: &[u64; MOST_ROWS],
     n: usize,
 ) -> usize
     requires { ⌜ PosedWith (posed (now source) (now widths) (now lasts) (now target) (now own)) b n (now dom) ⌝ }
     ensures { λ r. ⌜ Fewest (posed (now (source .entry)) (now (widths .entry)) (now (lasts .entry)) (now (target .entry)) (now (own .entry))) b n r ⌝ }
 {
     let all = bits::below(n as u32);
-    if !crate::feasibility::can(source, widths, lasts, target, own, b, dom, n, 0, all, 12) {
-        return 13;
+    if !crate::feasibility::can(
+        source,
+        widths,
+        lasts,
+        target,
+        own,
+        b,
+        dom,
+        n,
+        0,
+        all,
+        QUESTION_GOALS,
+    ) {
+        return TOO_FEW;
     }
     let mut k: usize = 0;
-    while k < 12 {
+    while k < QUESTION_GOALS {
         if crate::feasibility::can(source, widths, lasts, target, own, b, dom, n, 0, all, k) {
             return k;
         }
@@ -127,8 +144,8 @@ fn one_row(
     lasts: &[u8],
     target: &[u64],
     own: &[u8],
-    b: [u64; 64],
-    dom: &[u64; 64],
+    b: [u64; SLOTS],
+    dom: &[u64; MOST_ROWS],
     n: usize,
     row: usize,
     p: Pass,
@@ -167,8 +184,8 @@ fn first_rows(
     lasts: &[u8],
     target: &[u64],
     own: &[u8],
-    b: [u64; 64],
-    dom: &[u64; 64],
+    b: [u64; SLOTS],
+    dom: &[u64; MOST_ROWS],
     n: usize,
     k: usize,
 ) -> Chosen
@@ -194,15 +211,15 @@ pub fn choose(
     lasts: &[u8],
     target: &[u64],
     own: &[u8],
-    b: [u64; 64],
-    dom: &[u64; 64],
+    b: [u64; SLOTS],
+    dom: &[u64; MOST_ROWS],
     n: usize,
 ) -> Chosen
     requires { ⌜ PosedWith (posed (now source) (now widths) (now lasts) (now target) (now own)) b n (now dom) ⌝ }
     ensures { λ r. ⌜ Chooses (posed (now (source .entry)) (now (widths .entry)) (now (lasts .entry)) (now (target .entry)) (now (own .entry))) b n r ⌝ }
 {
     let k = fewest(source, widths, lasts, target, own, b, dom, n);
-    if k < 13 {
+    if k < TOO_FEW {
         return first_rows(source, widths, lasts, target, own, b, dom, n, k);
     }
     none()

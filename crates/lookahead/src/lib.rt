@@ -14,10 +14,17 @@ pub mod reasons; // rows that are entered, reasons of a failure
 
 use crate::reasons::Reasons;
 use crate::reasons::Rows;
+use codes::SLOTS;
+use codes::SUBGOAL_CODES;
+use codes::USES_GOALS;
+use spec::MOST_ROWS;
 use task::terms::alike;
 use task::terms::noted;
 use task::terms::stands;
 use task::terms::width;
+
+// As many as there can be source subgoals.
+const MOST: u64 = USES_GOALS as u64;
 
 // Whether it is in vain, and then why.
 pub struct Outlook {
@@ -28,7 +35,7 @@ pub struct Outlook {
 // Of the subgoals that want a row not yet in use: how many, how many of them each row has a target for, and their slots.
 struct Wants {
     many: u64,
-    served: [u64; 64],
+    served: [u64; MOST_ROWS],
     slots: u64,
 }
 
@@ -54,7 +61,7 @@ fn no_wants() -> Wants
 {
     Wants {
         many: 0,
-        served: [0u64; 64],
+        served: [0u64; MOST_ROWS],
         slots: 0,
     }
 }
@@ -72,7 +79,7 @@ fn use_end(lasts: &[u8], at: usize) -> usize
 }
 
 // Whether the term is bound, and to another word.
-fn clashes(b: &[u64; 64], x: u64, y: u64) -> bool
+fn clashes(b: &[u64; SLOTS], x: u64, y: u64) -> bool
     ensures { λ r. ⌜ Clashes (now (b .entry)) x y r ⌝ }
 {
     let have = stands(b, x);
@@ -88,7 +95,7 @@ fn offered(
     widths: &[u8],
     target: &[u64],
     own: &[u8],
-    b: &[u64; 64],
+    b: &[u64; SLOTS],
     allowed: u64,
     i: usize,
     k: usize,
@@ -100,12 +107,16 @@ fn offered(
     if !bits::holds(allowed, own[k] as u32) {
         return false;
     }
-    if target[9 * k] != source[9 * i] {
+    if target[SUBGOAL_CODES * k] != source[SUBGOAL_CODES * i] {
         return false;
     }
     let wide = width(widths[i]);
     for a in 0..wide {
-        if clashes(b, source[9 * i + 1 + a], target[9 * k + 1 + a]) {
+        if clashes(
+            b,
+            source[SUBGOAL_CODES * i + 1 + a],
+            target[SUBGOAL_CODES * k + 1 + a],
+        ) {
             return false;
         }
     }
@@ -118,7 +129,7 @@ fn offers(
     widths: &[u8],
     target: &[u64],
     own: &[u8],
-    b: &[u64; 64],
+    b: &[u64; SLOTS],
     used: u64,
     allowed: u64,
     i: usize,
@@ -147,7 +158,7 @@ fn slots_of(source: &[u64], widths: &[u8], i: usize, set: u64) -> u64
     let wide = width(widths[i]);
     let mut slots = set;
     for a in 0..wide {
-        slots = noted(slots, source[9 * i + 1 + a]);
+        slots = noted(slots, source[SUBGOAL_CODES * i + 1 + a]);
     }
     slots
 }
@@ -166,7 +177,7 @@ fn wanting(w: Wants, rows: u64, slots: u64) -> Wants
     ensures { λ r. ⌜ Wanting w rows slots r ⌝ }
 {
     let mut served = w.served;
-    for x in 0..64 {
+    for x in 0..MOST_ROWS {
         served[x] = served[x] + member(rows, x);
     }
     Wants {
@@ -186,11 +197,11 @@ fn larger(x: u64, y: u64) -> u64
 }
 
 // The most that one row has a target for.
-fn most(served: &[u64; 64]) -> u64
+fn most(served: &[u64; MOST_ROWS]) -> u64
     ensures { λ r. ⌜ Most (now (served .entry)) r ⌝ }
 {
     let mut m: u64 = 0;
-    for x in 0..64 {
+    for x in 0..MOST_ROWS {
         m = larger(m, served[x]);
     }
     m
@@ -202,10 +213,10 @@ fn beyond(many: u64, left: usize, each: u64) -> bool
     requires { ⌜ each ≤ 96 ⌝ }
     ensures { λ r. ⌜ (r ≡ true) ↔ (left * each < many) ⌝ }
 {
-    if left < 96 {
+    if left < USES_GOALS {
         return left as u64 * each < many;
     }
-    96 * each < many
+    MOST * each < many
 }
 
 // What is seen of the source subgoal `at` and the others of its use.
@@ -217,7 +228,7 @@ pub fn look(
     target: &[u64],
     own: &[u8],
     at: usize,
-    b: &[u64; 64],
+    b: &[u64; SLOTS],
     rows: Rows,
 ) -> Outlook
     requires { ⌜ Sized (posed (now source) (now widths) (now lasts) (now target) (now own)) ⌝ }

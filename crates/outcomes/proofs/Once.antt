@@ -7,7 +7,7 @@ use Rattle.spec.specs.Book.{Book, admittedOf}
 use Rattle.spec.specs.Result.{Answered, Right}
 use Rattle.spec.proofs.Decided.Answered.{right-unique}
 use Rattle.spec.specs.BookLayout.{SoundBook}
-use Rattle.spec.specs.Refusals.{Refusal}
+use Rattle.spec.specs.declared.Reason.{Reason}
 use Rattle.spec.proofs.Bytes.BookUnique.{book-unique}
 use Rattle.spec.proofs.Bytes.RefusedOnce.{refused-once}
 use Rattle.spec.proofs.Bytes.Refused.{sound-unrefused}
@@ -24,14 +24,14 @@ module _ (book : List ℕ) (answer witness : ℕ) where
   same-value : (b c : Book) → SoundBook book b → SoundBook book c → b ≡ c
   same-value b c s t = book-unique s t
 
-  pub given-unrefused : {k p : ℕ} → Given book answer witness → Refused book answer witness k p → ⊥
+  pub given-unrefused : {r : Reason} → Given book answer witness → Refused book answer witness r → ⊥
   given-unrefused g (one f) = g .room f
   given-unrefused g (read f r) = sound-unrefused (g .sound) r
   given-unrefused g (nine f b s n) = g .few (subst (λ c. Fault9 (admittedOf c) (c .question)) (same-value b (g .value) s (g .sound)) n)
   given-unrefused g (ten f b s n t) = subst (λ c. Fault10 (admittedOf c) (c .question)) (same-value b (g .value) s (g .sound)) t (g .result .rows) (g .right .answers .holds)
 
-  pub refused-same : {k p l q : ℕ} → Refused book answer witness k p → Refused book answer witness l q → (k ≡ l) × (p ≡ q)
-  refused-same (one f) (one g) = (refl, refl)
+  pub refused-same : {r s : Reason} → Refused book answer witness r → Refused book answer witness s → r ≡ s
+  refused-same (one f) (one g) = refl
   refused-same (one f) (read g r) = absurd (g f)
   refused-same (one f) (nine g b s n) = absurd (g f)
   refused-same (one f) (ten g b s n t) = absurd (g f)
@@ -41,9 +41,9 @@ module _ (book : List ℕ) (answer witness : ℕ) where
   refused-same (read g r) (ten h b s n t) = absurd (sound-unrefused s r)
   refused-same (nine g b s n) (one f) = absurd (g f)
   refused-same (nine g b s n) (read h r) = absurd (sound-unrefused s r)
-  refused-same (nine g b s n) (nine h c t m) = (refl, refl)
+  refused-same (nine g b s n) (nine h c t m) = refl
   refused-same (nine g b s n) (ten h c t m u) = absurd (m (subst (λ c. Fault9 (admittedOf c) (c .question)) (same-value b c s t) n))
   refused-same (ten g b s n t) (one f) = absurd (g f)
   refused-same (ten g b s n t) (read h r) = absurd (sound-unrefused s r)
   refused-same (ten g b s n t) (nine h c u m) = absurd (n (subst (λ c. Fault9 (admittedOf c) (c .question)) (same-value c b u s) m))
-  refused-same (ten g b s n t) (ten h c u m v) = (refl, refl)
+  refused-same (ten g b s n t) (ten h c u m v) = refl

@@ -20,6 +20,8 @@ use Rattle.spec.proofs.Decided.Rows.{allRows, allRows-sound, allRows-complete, 
 use Rattle.containment.proofs.Normal.{any-decided}
 use Rattle.spec.specs.Numbers.{Bytes}
 use Rattle.spec.specs.BookLayout.{SoundBook}
+use Rattle.spec.specs.declared.Reason.{Reason}
+use Rattle.spec.specs.Refusals.{ofBook}
 use Rattle.spec.proofs.Bytes.Refused.{sound-or-refused}
 use Rattle.spec.proofs.Bytes.Refused as reading
 use Rattle.spec.specs.Table.{mostRows, answerRoom, witnessRoom, Fault1, Fault9, Refused, one, read, nine, ten}
@@ -38,7 +40,7 @@ fault-9 s q safe = (
 
 module _ (book : List ℕ) (bytes : Bytes book) (answer witness : ℕ) where
   abbrev pub Told : Type 0
-  Told = Given book answer witness ⊎ ((k : ℕ) × (p : ℕ) × Refused book answer witness k p)
+  Told = Given book answer witness ⊎ ((r : Reason) × Refused book answer witness r)
 
   sound-told : (Fault1 answer witness → ⊥) → (b : Book) → SoundBook book b → Told
   sound-told room b s = go (decLt mostRows (length (allRows (admittedOf b) (b .question)))) (any-decided (admittedOf b) (b .question) safe)
@@ -50,8 +52,8 @@ module _ (book : List ℕ) (bytes : Bytes book) (answer witness : ℕ) where
       few n f = n (fault-9 (admittedOf b) (b .question) safe .0 f)
 
       go : Dec (mostRows < length (allRows (admittedOf b) (b .question))) → Dec ((l : List (Subgoal (Term ℕ))) × Rewrites (admittedOf b) (b .question) l) → Told
-      go (yes many) d = inr (9, 0, nine room b s (fault-9 (admittedOf b) (b .question) safe .1 many))
-      go (no n) (no never) = inr (10, 0, ten room b s (few n) (λ l r. never (l, r)))
+      go (yes many) d = inr (ofBook 9, nine room b s (fault-9 (admittedOf b) (b .question) safe .1 many))
+      go (no n) (no never) = inr (ofBook 10, ten room b s (few n) (λ l r. never (l, r)))
       go (no n) (yes w) = let r = right-exists (admittedOf b) (b .question) safe (w .0) (w .1) in inl record { room = room; value = b; sound = s; few = few n; result = r .0; right = r .1 }
 
   room-decided : Dec (Fault1 answer witness)
@@ -66,6 +68,6 @@ module _ (book : List ℕ) (bytes : Bytes book) (answer witness : ℕ) where
   told = go room-decided (sound-or-refused book bytes)
     where
       go : Dec (Fault1 answer witness) → ((b : Book) × SoundBook book b) ⊎ reading.Refused book → Told
-      go (yes f) d = inr (1, 0, one f)
+      go (yes f) d = inr (ofBook 1, one f)
       go (no n) (inl s) = sound-told n (s .0) (s .1)
-      go (no n) (inr r) = inr (r .0, r .1, read n (r .2))
+      go (no n) (inr r) = inr (r .0, read n (r .1))

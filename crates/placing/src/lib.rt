@@ -13,12 +13,15 @@ use lookahead::reasons::blamed;
 use lookahead::reasons::enters;
 use lookahead::reasons::joined;
 use lookahead::reasons::no_reasons;
-use task::terms::noted;
 use lookahead::reasons::rows_of;
 use lookahead::reasons::seen;
 use lookahead::reasons::settled;
 use lookahead::reasons::shorted;
+use task::terms::noted;
 // what is asked of terms and bindings is asked of this crate, by those above too
+use codes::SLOTS;
+use codes::SUBGOAL_CODES;
+use codes::USES_GOALS;
 use task::terms::alike;
 use task::terms::opened;
 use task::terms::stands;
@@ -27,13 +30,13 @@ use task::terms::width;
 // The places of the source subgoals, or that there are none.
 pub struct Places {
     pub ok: bool,
-    pub ks: [u16; 96],
+    pub ks: [u16; USES_GOALS],
 }
 
 struct Placed {
     ok: bool,
     why: Reasons,
-    ks: [u16; 96],
+    ks: [u16; USES_GOALS],
 }
 
 // What was answered below, with the place k of the subgoal `at` before it.
@@ -58,7 +61,7 @@ fn whole() -> Placed
     Placed {
         ok: true,
         why: no_reasons(),
-        ks: [0u16; 96],
+        ks: [0u16; USES_GOALS],
     }
 }
 
@@ -69,7 +72,7 @@ fn none(why: Reasons) -> Placed
     Placed {
         ok: false,
         why,
-        ks: [0u16; 96],
+        ks: [0u16; USES_GOALS],
     }
 }
 
@@ -82,7 +85,7 @@ fn place(
     target: &[u64],
     own: &[u8],
     at: usize,
-    b: &[u64; 64],
+    b: &[u64; SLOTS],
     rows: Rows,
 ) -> Placed
     requires { ⌜ Sized (posed (now source) (now widths) (now lasts) (now target) (now own)) ⌝ }
@@ -99,7 +102,7 @@ fn place(
     }
     let mut why = no_reasons();
     'candidates: for k in 0..own.len() {
-        if target[9 * k] != source[9 * at] {
+        if target[SUBGOAL_CODES * k] != source[SUBGOAL_CODES * at] {
             continue 'candidates;
         }
         let e = enters(rows, own[k]);
@@ -111,8 +114,8 @@ fn place(
         let mut g = *kept;
         let mut new: u64 = 0;
         for a in 0..width(widths[at]) {
-            let x = source[9 * at + 1 + a];
-            let y = target[9 * k + 1 + a];
+            let x = source[SUBGOAL_CODES * at + 1 + a];
+            let y = target[SUBGOAL_CODES * k + 1 + a];
             let have = stands(&g, x);
             if have == 0 {
                 g[x as usize] = y;
@@ -141,7 +144,7 @@ pub fn places_from(
     target: &[u64],
     own: &[u8],
     at: usize,
-    b: [u64; 64],
+    b: [u64; SLOTS],
 ) -> Places
     requires { ⌜ Sized (posed (now source) (now widths) (now lasts) (now target) (now own)) ⌝ }
     requires { ⌜ at ≤ length (now widths) ⌝ }
@@ -155,7 +158,7 @@ pub fn places_from(
     }
     Places {
         ok: false,
-        ks: [0u16; 96],
+        ks: [0u16; USES_GOALS],
     }
 }
 
@@ -166,7 +169,7 @@ pub fn first_places(
     lasts: &[u8],
     target: &[u64],
     own: &[u8],
-    b: [u64; 64],
+    b: [u64; SLOTS],
 ) -> Places
     requires { ⌜ Sized (posed (now source) (now widths) (now lasts) (now target) (now own)) ⌝ }
     ensures { λ r. ⌜ FirstPlaces (posed (now (source .entry)) (now (widths .entry)) (now (lasts .entry)) (now (target .entry)) (now (own .entry))) b r ⌝ }
@@ -181,7 +184,7 @@ pub fn enough(
     lasts: &[u8],
     target: &[u64],
     own: &[u8],
-    b: [u64; 64],
+    b: [u64; SLOTS],
     used: u64,
     may: u64,
     left: usize,

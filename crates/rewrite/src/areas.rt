@@ -6,6 +6,8 @@ ghost use Prim.Native.Nat.{_≤_};
 use crate::told::Told;
 use crate::told::tell;
 use libc::STDOUT_FILENO;
+use spec::ANSWER_ROOM;
+use spec::WITNESS_ROOM;
 
 // What an area holds before: bytes that go through all values, from `first` on.
 fn pattern(area: &mut [u8], first: u8) {
@@ -46,8 +48,8 @@ fn print_with(book: &[u8], n: usize, m: usize)
 
 pub(crate) fn print_areas(book: &[u8]) {
     print_with(book, 600, 150);
-    print_with(book, 534, 120);
-    print_with(book, 533, 120);
-    print_with(book, 534, 119);
+    print_with(book, ANSWER_ROOM, WITNESS_ROOM);
+    print_with(book, ANSWER_ROOM - 1, WITNESS_ROOM);
+    print_with(book, ANSWER_ROOM, WITNESS_ROOM - 1);
     print_with(book, 533, 119);
 }

@@ -11,13 +11,14 @@ mod outcome; // the listing or the refusal; answer and witness as files
 mod repeat; // the same book several times
 mod told; // what the rewriter answered, as numbers
 
+use crate::outcome::print_outcome;
 use check::same;
 use libc::STDIN_FILENO;
-use crate::outcome::print_outcome;
+use spec::LONGEST_BOOK;
 
 // One byte more than the longest sound book: what a book has past that changes nothing, it is
 // refused with 2.
-const ROOM: usize = 25041;
+const ROOM: usize = LONGEST_BOOK + 1;
 
 fn one_book(store: bool) {
     let mut book = [0u8; ROOM];

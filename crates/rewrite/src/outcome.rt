@@ -2,6 +2,8 @@
 use crate::told::tell;
 use console::print_listing;
 use console::print_refusal;
+use spec::ANSWER_ROOM;
+use spec::WITNESS_ROOM;
 
 // Writes the bytes to the file of this name, and says on standard error where that fails.
 fn write_named(path: &[u8], bytes: &[u8]) {
@@ -43,8 +45,8 @@ fn front(bytes: &[u8], n: usize) -> &[u8] {
 
 // On a refusal no file is touched.
 pub(crate) fn print_outcome(book: &[u8], store: bool) {
-    let mut answer = [0u8; 534];
-    let mut witness = [0u8; 120];
+    let mut answer = [0u8; ANSWER_ROOM];
+    let mut witness = [0u8; WITNESS_ROOM];
     let told = tell(book, &mut answer, &mut witness);
     if told.number > 0 {
         print_refusal(told.number, told.place);

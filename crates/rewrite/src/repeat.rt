@@ -5,10 +5,12 @@ use crate::told::Told;
 use crate::told::tell;
 use console::print_lengths;
 use console::print_refusal;
+use spec::ANSWER_ROOM;
+use spec::WITNESS_ROOM;
 
 fn once(book: &[u8]) -> Told {
-    let mut answer = [0u8; 534];
-    let mut witness = [0u8; 120];
+    let mut answer = [0u8; ANSWER_ROOM];
+    let mut witness = [0u8; WITNESS_ROOM];
     tell(book, &mut answer, &mut witness)
 }
 

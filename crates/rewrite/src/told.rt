@@ -1,6 +1,6 @@
 // What the rewriter answered of a book, as numbers.
-use spec::Outcome;
 use rewriter::rewrite;
+use spec::Outcome;
 
 // The refusal's number and place, 0 and 0 where there is none; the lengths of answer and witness, 0 and
 // 0 on a refusal.
@@ -14,9 +14,9 @@ pub(crate) struct Told {
 // Rewrites a book with these areas.
 pub(crate) fn tell(book: &[u8], answer: &mut [u8], witness: &mut [u8]) -> Told {
     match rewrite(book, answer, witness) {
-        Outcome::Refused(number, place) => Told {
-            number,
-            place,
+        Outcome::Refused(why) => Told {
+            number: why.number,
+            place: why.place,
             answer: 0,
             witness: 0,
         },

@@ -1,5 +1,5 @@
 -- Each refusal, and what stays.
-use mathlib.Core.Path.{_≡_, refl, subst}
+use mathlib.Core.Path.{_≡_, refl, sym, subst}
 use mathlib.Core.Logic.{inl, inr, ⊎-elim}
 use mathlib.Core.Bool.{Bool, true, false}
 use mathlib.Core.List.{List}
@@ -9,7 +9,8 @@ use lib.ListN.{length, drop}
 use Rattle.spec.proofs.Decided.Rows.{allRows}
 use Rattle.spec.specs.Book.{Book, admittedOf}
 use Rattle.spec.specs.BookLayout.{SoundBook}
-use Rattle.spec.specs.Refusals.{Refusal}
+use Rattle.spec.specs.declared.Reason.{Reason}
+use Rattle.spec.specs.Refusals.{ofBook, Refusal}
 use Rattle.row_list.specs.Listing.{Sought, AllStand, TooMany, ListedSays, Listing}
 use Rattle.row_list.specs.declared.Listed.{Listed}
 use Rattle.row_list.specs.declared.Listed.the-variants.{All, Over}
@@ -27,14 +28,18 @@ use Rattle.answer.specs.Steps.{ChosenPut}
 use Rattle.answer.proofs.ChosenLaws.{few-rows}
 use Rattle.rewriter.specs.Steps.{Sounds, Rowed}
 
-pub turned-down : {book a w : List ℕ} {k p : ℕ} → Refused book (length a) (length w) k p → TurnedDown book a a w w k p
+pub turned-down : {book a w : List ℕ} {r : Reason} → Refused book (length a) (length w) r → TurnedDown book a a w w r
 turned-down r = record { refused = r; answer-stays = refl; witness-stays = refl }
 
-pub answer-short : {book : List ℕ} {answer witness : ℕ} → answer < 534 → Refused book answer witness 1 0
+-- .. of a refusal that is not said of one rule
+pub turned-down-by : {book a w : List ℕ} {k : ℕ} {r : Reason} → r ≡ ofBook k → Refused book (length a) (length w) (ofBook k) → TurnedDown book a a w w r
+turned-down-by {book} {a} {w} e f = turned-down (subst (Refused book (length a) (length w)) (sym e) f)
+
+pub answer-short : {book : List ℕ} {answer witness : ℕ} → answer < 534 → Refused book answer witness (ofBook 1)
 unfolding answerRoom
 answer-short h = one (inl h)
 
-pub witness-short : {book : List ℕ} {answer witness : ℕ} → witness < 120 → Refused book answer witness 1 0
+pub witness-short : {book : List ℕ} {answer witness : ℕ} → witness < 120 → Refused book answer witness (ofBook 1)
 unfolding witnessRoom
 witness-short h = one (inr h)
 
@@ -42,14 +47,14 @@ pub roomy : {answer witness : ℕ} → 534 ≤ answer → 120 ≤ witness → Fa
 unfolding answerRoom witnessRoom
 roomy a w f = ⊎-elim (λ h. omega arith) (λ h. omega arith) f
 
-pub not-read : {book : List ℕ} {answer witness k p : ℕ} → 534 ≤ answer → 120 ≤ witness → Refusal book k p → Refused book answer witness k p
+pub not-read : {book : List ℕ} {answer witness : ℕ} {r : Reason} → 534 ≤ answer → 120 ≤ witness → Refusal book r → Refused book answer witness r
 not-read a w r = read (roomy a w) r
 
 module _ {book : List ℕ} {answer witness : ℕ} (s : Sounds book answer witness) where
   pub sought : {area : ℕ} → 576 ≤ area → Sought book area
   sought h = record { value = s .value; sound = s .sound; room = omega arith }
 
-  pub over-64 : {before after : List ℕ} → TooMany (admittedOf (s .value)) (s .value .question) before after → Refused book answer witness 9 0
+  pub over-64 : {before after : List ℕ} → TooMany (admittedOf (s .value)) (s .value .question) before after → Refused book answer witness (ofBook 9)
   unfolding mostRows
   over-64 t = nine (s .room) (s .value) (s .sound) (fault-9 (admittedOf (s .value)) (s .value .question) (value-safe (s .sound .value)) .1 (t .many))
 
@@ -60,7 +65,7 @@ module _ {book rows : List ℕ} {n answer witness : ℕ} (w : Rowed book rows n 
   pub chosen-put : chosen .ok ≡ true → ChosenPut book rows n chosen answer witness
   chosen-put e = record { asked = w .asked; found = c .by (w .asked .value) (w .asked .is) .found e; room = w .room }
 
-  pub none-do : chosen .ok ≡ false → Refused book answer witness 10 0
+  pub none-do : chosen .ok ≡ false → Refused book answer witness (ofBook 10)
   none-do e = ten (w .room) (w .asked .value) (w .asked .is .sound) (few-rows (w .asked .value) (w .asked .is)) (c .by (w .asked .value) (w .asked .is) .none e .none)
 
 -- what the list of rows says, case by case
@@ -68,7 +73,7 @@ module _ {book : List ℕ} {answer witness : ℕ} (s : Sounds book answer witnes
   pub rows-listed : {n : ℕ} → r ≡ All n → Rowed book after n answer witness
   rows-listed e = rowed s (subst (ListedSays (admittedOf (s .value)) (s .value .question) before after) e (l .says (s .value) (s .sound)))
 
-  pub rows-over : r ≡ Over → Refused book answer witness 9 0
+  pub rows-over : r ≡ Over → Refused book answer witness (ofBook 9)
   rows-over e = over-64 s (subst (ListedSays (admittedOf (s .value)) (s .value .question) before after) e (l .says (s .value) (s .sound)))
 
 -- what the reading says, case by case
@@ -76,5 +81,5 @@ module _ {book : List ℕ} {answer witness : ℕ} (a : 534 ≤ answer) (w : 120 
   pub read-sound : r ≡ Sound → Sounds book answer witness
   read-sound e = let v = subst (ReadingSays book) e says in record { value = v .0; sound = v .1; room = roomy a w }
 
-  pub read-refused : {k p : ℕ} → r ≡ RefusedWith k p → Refused book answer witness k p
+  pub read-refused : {why : Reason} → r ≡ RefusedWith why → Refused book answer witness why
   read-refused e = not-read a w (subst (ReadingSays book) e says)

@@ -2,13 +2,17 @@
 ghost use lib.ListN.{length};
 ghost use Rattle.spec.specs.Rewriting.{Rewriting};
 ghost use Rattle.rewriter.specs.Steps.{Sounds, Rowed};
-use spec::Reading;
+use answer::put_chosen;
 use books::read_book;
+use codes::ROWS_CODES;
+use contents::reasons::of_book;
+use row_choice::choose_rows;
 use row_list::Listed;
 use row_list::list_rows;
-use row_choice::choose_rows;
-use answer::put_chosen;
+use spec::ANSWER_ROOM;
 use spec::Outcome;
+use spec::Reading;
+use spec::WITNESS_ROOM;
 
 // Over all n rows: 10 where no list of them will do.
 fn rewrite_rows(
@@ -26,7 +30,7 @@ fn rewrite_rows(
         let long = put_chosen(book, rows, n, chosen, answer, witness);
         return Outcome::Done(long.answer, long.witness);
     }
-    Outcome::Refused(10, 0)
+    Outcome::Refused(of_book(10))
 }
 
 // A sound book: 9 where there are more than 64 rows.
@@ -34,9 +38,9 @@ fn rewrite_sound(book: &[u8], answer: &mut [u8], witness: &mut [u8]) -> Outcome
     requires { ⌜ Sounds (now book) (length (now answer)) (length (now witness)) ⌝ }
     ensures { λ r. ⌜ Rewriting (now (book .entry)) (now (answer .entry)) (now (answer .exit)) (now (witness .entry)) (now (witness .exit)) r ⌝ }
 {
-    let mut rows = [0u64; 576];
+    let mut rows = [0u64; ROWS_CODES];
     match list_rows(book, &mut rows) {
-        Listed::Over => Outcome::Refused(9, 0),
+        Listed::Over => Outcome::Refused(of_book(9)),
         Listed::All(n) => rewrite_rows(book, &rows, n, answer, witness),
     }
 }
@@ -45,14 +49,14 @@ fn rewrite_sound(book: &[u8], answer: &mut [u8], witness: &mut [u8]) -> Outcome
 pub fn rewrite(book: &[u8], answer: &mut [u8], witness: &mut [u8]) -> Outcome
     ensures { λ r. ⌜ Rewriting (now (book .entry)) (now (answer .entry)) (now (answer .exit)) (now (witness .entry)) (now (witness .exit)) r ⌝ }
 {
-    if answer.len() < 534 {
-        return Outcome::Refused(1, 0);
+    if answer.len() < ANSWER_ROOM {
+        return Outcome::Refused(of_book(1));
     }
-    if witness.len() < 120 {
-        return Outcome::Refused(1, 0);
+    if witness.len() < WITNESS_ROOM {
+        return Outcome::Refused(of_book(1));
     }
     match read_book(book) {
-        Reading::Refused(number, place) => Outcome::Refused(number, place),
+        Reading::Refused(why) => Outcome::Refused(why),
         Reading::Sound => rewrite_sound(book, answer, witness),
     }
 }

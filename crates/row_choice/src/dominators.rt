@@ -2,17 +2,20 @@
 ghost use Prim.Native.Nat.{_<_, _≤_};
 ghost use Rattle.book_codes.specs.RowsGiven.{RowsGiven};
 ghost use Rattle.row_choice.specs.Dominators.{NoRelation, SomePair, TellsPair, SomeAgainst, TellsAgainst, Onto, DominatorsOf};
-use first_shortest::feasibility::dominates;
 use book_codes::one_use::kept_use;
+use codes::SUBGOAL_CODES;
+use first_shortest::feasibility::dominates;
+use spec::MOST_ROWS;
+use spec::SUMMARY_GOALS;
 
 // Whether one of the target's subgoals is of that relation.
 fn has_relation(target: &[u64], relation: u64) -> bool
     ensures { λ r. ⌜ NoRelation (now (target .entry)) relation r ⌝ }
 {
-    let many = target.len() / 9;
+    let many = target.len() / SUBGOAL_CODES;
     let mut k: usize = 0;
     while k < many {
-        if target[9 * k] == relation {
+        if target[SUBGOAL_CODES * k] == relation {
             return true;
         }
         k += 1;
@@ -29,23 +32,29 @@ fn goes_into(source: &[u64], widths: &[u8], target: &[u64]) -> bool
     if !has_relation(target, source[0]) {
         return false;
     }
-    let lasts = [0u8; 8];
-    let own = [0u8; 8];
+    let lasts = [0u8; SUMMARY_GOALS];
+    let own = [0u8; SUMMARY_GOALS];
     let goals = widths.len();
-    let targets = target.len() / 9;
+    let targets = target.len() / SUBGOAL_CODES;
     dominates(source, widths, &lasts[..goals], target, &own[..targets])
 }
 
 // The rows into whose use the source's goes.
-fn those_over(source: &[u64], widths: &[u8], target: &[u64], starts: &[u16; 65], n: usize) -> u64
+fn those_over(
+    source: &[u64],
+    widths: &[u8],
+    target: &[u64],
+    starts: &[u16; MOST_ROWS + 1],
+    n: usize,
+) -> u64
     requires { ⌜ SomeAgainst (now source) (now widths) (now target) (now starts) n ⌝ }
     ensures { λ r. ⌜ TellsAgainst (now (source .entry)) (now (widths .entry)) (now (target .entry)) (now (starts .entry)) n r ⌝ }
 {
     let mut set: u64 = 0;
     let mut d: usize = 0;
     while d < n {
-        let from = 9 * (starts[d] as usize);
-        let to = 9 * (starts[d + 1] as usize);
+        let from = SUBGOAL_CODES * (starts[d] as usize);
+        let to = SUBGOAL_CODES * (starts[d + 1] as usize);
         if goes_into(source, widths, &target[from..to]) {
             set = bits::add(set, d as u32);
         }
@@ -61,14 +70,20 @@ pub fn dominators(
     n: usize,
     r: usize,
     target: &[u64],
-    starts: &[u16; 65],
+    starts: &[u16; MOST_ROWS + 1],
 ) -> u64
     requires { ⌜ RowsGiven (now book) (now rows) n × (n ≤ 64) × (r < n) × Onto (now book) (now rows) n (now target) (now starts) ⌝ }
     ensures { λ s. ⌜ DominatorsOf (now (book .entry)) (now (rows .entry)) n r s ⌝ }
 {
     let mut source = [0u64; 72];
-    let mut widths = [0u8; 8];
-    let row = 9 * r;
+    let mut widths = [0u8; SUMMARY_GOALS];
+    let row = SUBGOAL_CODES * r;
     let goals = kept_use(book, &rows[row..], &mut source, &mut widths);
-    those_over(&source[..9 * goals], &widths[..goals], target, starts, n)
+    those_over(
+        &source[..SUBGOAL_CODES * goals],
+        &widths[..goals],
+        target,
+        starts,
+        n,
+    )
 }

@@ -7,22 +7,28 @@ ghost use Rattle.row_choice.specs.Dominance.{Dominance};
 
 mod dominators; // which rows dominate a row
 
+use crate::dominators::dominators;
 use book_codes::question::question_bindings;
 use book_codes::question::question_source;
-use first_shortest::Chosen;
-use first_shortest::choose;
-use crate::dominators::dominators;
 use book_codes::uses::expand;
 use book_codes::uses::use_starts;
+use codes::QUESTION_CODES;
+use codes::ROWS_GOALS;
+use codes::ROWS_USES_CODES;
+use codes::SUBGOAL_CODES;
+use first_shortest::Chosen;
+use first_shortest::choose;
+use spec::MOST_ROWS;
+use spec::QUESTION_GOALS;
 
 // Of each row the set of rows that dominate it.
-fn dominance(book: &[u8], rows: &[u64], n: usize, target: &[u64]) -> [u64; 64]
+fn dominance(book: &[u8], rows: &[u64], n: usize, target: &[u64]) -> [u64; MOST_ROWS]
     requires { ⌜ RowsGiven (now book) (now rows) n × (n ≤ 64) × Targets (now book) (now rows) n (now target) ⌝ }
     ensures { λ r. ⌜ Dominance (now (book .entry)) (now (rows .entry)) n r ⌝ }
 {
-    let mut starts = [0u16; 65];
+    let mut starts = [0u16; MOST_ROWS + 1];
     use_starts(book, rows, n, &mut starts);
-    let mut table = [0u64; 64];
+    let mut table = [0u64; MOST_ROWS];
     let mut r: usize = 0;
     while r < n {
         table[r] = dominators(book, rows, n, r, target, &starts);
@@ -36,14 +42,14 @@ fn choose_onto(book: &[u8], rows: &[u64], n: usize, target: &[u64], own: &[u8]) 
     requires { ⌜ Asked (now book) (now rows) n × Targets (now book) (now rows) n (now target) × Owners (now book) (now rows) n (now own) ⌝ }
     ensures { λ r. ⌜ RowsChosen (now (book .entry)) (now (rows .entry)) n r ⌝ }
 {
-    let mut source = [0u64; 108];
-    let mut widths = [0u8; 12];
+    let mut source = [0u64; QUESTION_CODES];
+    let mut widths = [0u8; QUESTION_GOALS];
     let k = question_source(book, &mut source, &mut widths);
-    let lasts = [0u8; 12];
+    let lasts = [0u8; QUESTION_GOALS];
     let b = question_bindings(book);
     let dom = dominance(book, rows, n, target);
     choose(
-        &source[..9 * k],
+        &source[..SUBGOAL_CODES * k],
         &widths[..k],
         &lasts[..k],
         target,
@@ -59,9 +65,15 @@ pub fn choose_rows(book: &[u8], rows: &[u64], n: usize) -> Chosen
     requires { ⌜ Asked (now book) (now rows) n ⌝ }
     ensures { λ r. ⌜ RowsChosen (now (book .entry)) (now (rows .entry)) n r ⌝ }
 {
-    let mut target = [0u64; 4608];
-    let mut own = [0u8; 512];
-    let mut inner = [0u8; 512];
+    let mut target = [0u64; ROWS_USES_CODES];
+    let mut own = [0u8; ROWS_GOALS];
+    let mut inner = [0u8; ROWS_GOALS];
     let goals = expand(book, rows, n, &mut target, &mut own, &mut inner);
-    choose_onto(book, rows, n, &target[..9 * goals], &own[..goals])
+    choose_onto(
+        book,
+        rows,
+        n,
+        &target[..SUBGOAL_CODES * goals],
+        &own[..goals],
+    )
 }

@@ -6,14 +6,16 @@ ghost use lib.ListN.{length};
 
 mod tasks; // one summary and the question as a task
 
-use admission::summaries::is_in;
-use books::parts::part_of;
-use contents::fields::count_of;
-use summary_rows::Tally;
-use summary_rows::rows_of;
 use crate::tasks::put_source;
 use crate::tasks::put_target;
+use admission::summaries::is_in;
+use books::parts::part_of;
+use codes::QUESTION_CODES;
+use codes::SUBGOAL_CODES;
+use contents::fields::count_of;
 use rule_codes::places::head_count;
+use summary_rows::Tally;
+use summary_rows::rows_of;
 
 // All summary rows, so many; or there are more than 64.
 pub enum Listed {
@@ -40,7 +42,7 @@ fn rows_by(
     let lasts = [0u8; 16];
     let heads = head_count(body);
     rows_of(
-        &source[..9 * goals],
+        &source[..SUBGOAL_CODES * goals],
         &widths[..goals],
         &lasts[..goals],
         target,
@@ -101,6 +103,11 @@ pub fn list_rows(book: &[u8], out: &mut [u64]) -> Listed
 {
     let mut target = [0u64; 972];
     let targets = put_target(part_of(book, 1), part_of(book, 0), &mut target);
-    let own = [0u8; 108];
-    list_onto(book, &target[..9 * targets], &own[..targets], out)
+    let own = [0u8; QUESTION_CODES];
+    list_onto(
+        book,
+        &target[..SUBGOAL_CODES * targets],
+        &own[..targets],
+        out,
+    )
 }

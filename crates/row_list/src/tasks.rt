@@ -6,17 +6,19 @@ ghost use Rattle.rule_codes.specs.Codes.{atFront};
 ghost use Rattle.rule_codes.specs.Laid.{QuestionLaid};
 ghost use Rattle.row_list.specs.Alone.{aloneWord, aloneWords};
 ghost use Rattle.row_list.specs.Tasks.{SomeSummary, HeadSlots, SourceWords, TargetWords};
+use codes::NONE;
+use codes::QUESTION_CODES;
+use codes::SUBGOAL_CODES;
+use numbers::u32_at;
 use rule_codes::bodies::slot_words;
 use rule_codes::bodies::term_words;
-use rule_codes::questions::body_terms;
-use numbers::u32_at;
 use rule_codes::places::head_count;
+use rule_codes::questions::body_terms;
+use spec::MOST_HEAD;
+use spec::QUESTION_GOALS;
 
 // The relation of a head's places and of the terms that they are placed on: no rule's, since relations are numbered from 0 and there are at most 32.
 const HEAD: u64 = 255;
-
-// The word where a subgoal's terms have ended.
-const NONE: u64 = 1;
 
 // Word k of a subgoal of one term.
 fn alone_word(word: u64, k: usize) -> u64
@@ -36,21 +38,21 @@ fn put_alone(words: &[u64], out: &mut [u64])
     requires { ⌜ 9 * length (now words) ≤ length (now out) ⌝ }
     ensures { λ _. ⌜ now (out .exit) ≡ atFront (aloneWords (now (words .entry))) (now (out .entry)) ⌝ }
 {
-    let all = 9 * words.len();
+    let all = SUBGOAL_CODES * words.len();
     let mut k: usize = 0;
     while k < all {
-        out[k] = alone_word(words[k / 9], k % 9);
+        out[k] = alone_word(words[k / SUBGOAL_CODES], k % SUBGOAL_CODES);
         k += 1;
     }
 }
 
 // The slots of a summary's head: its variables' numbers.
-fn head_slots(body: &[u8], relations: &[u8]) -> [u64; 8]
+fn head_slots(body: &[u8], relations: &[u8]) -> [u64; MOST_HEAD]
     requires { ⌜ SomeSummary (now relations) (now body) ⌝ }
     ensures { λ r. ⌜ HeadSlots (now (body .entry)) r ⌝ }
 {
     let heads = head_count(body);
-    let mut slots = [0u64; 8];
+    let mut slots = [0u64; MOST_HEAD];
     let mut i: usize = 0;
     while i < heads {
         slots[i] = u32_at(body, 3 + 5 * i) as u64;
@@ -72,7 +74,7 @@ pub fn put_source(body: &[u8], relations: &[u8], source: &mut [u64], widths: &mu
         + slot_words(
             body,
             relations,
-            &mut source[9 * heads..],
+            &mut source[SUBGOAL_CODES * heads..],
             &mut widths[heads..],
         )
 }
@@ -82,9 +84,15 @@ pub fn put_target(body: &[u8], relations: &[u8], target: &mut [u64]) -> usize
     requires { ⌜ QuestionLaid (now relations) (now body) × (972 ≤ length (now target)) ⌝ }
     ensures { λ r. ⌜ TargetWords (now (relations .entry)) (now (body .entry)) (now (target .entry)) (now (target .exit)) r ⌝ }
 {
-    let mut terms = [0u64; 108];
+    let mut terms = [0u64; QUESTION_CODES];
     let count = body_terms(body, relations, &mut terms);
     put_alone(&terms[..count], target);
-    let mut widths = [0u8; 12];
-    count + term_words(body, relations, &mut target[9 * count..], &mut widths)
+    let mut widths = [0u8; QUESTION_GOALS];
+    count
+        + term_words(
+            body,
+            relations,
+            &mut target[SUBGOAL_CODES * count..],
+            &mut widths,
+        )
 }

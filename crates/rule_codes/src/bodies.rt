@@ -4,10 +4,10 @@ ghost use Rattle.codes.specs.Code.{slotCode, termCode};
 ghost use Rattle.rule_codes.specs.Codes.{Base, based};
 ghost use Rattle.rule_codes.specs.Laid.{LaidFor};
 ghost use Rattle.rule_codes.specs.Promises.{BodyWords, BodyWidths};
-use crate::places::VARIABLE;
 use crate::subgoals::put_subgoals;
 use crate::subgoals::put_widths;
 use crate::tables::base_table;
+use codes::VARIABLE;
 
 // Nine words and a width for each subgoal; the variables count from the base on.
 fn body_words(body: &[u8], relations: &[u8], base: u64, out: &mut [u64], widths: &mut [u8]) -> usize

@@ -1,22 +1,24 @@
 // A rule's head: its words, and the bindings that send each of its variables to itself.
 ghost use Rattle.rule_codes.specs.Heads.{HeadWords, HeadBindings};
 ghost use Rattle.rule_codes.specs.Laid.{Laid};
-use crate::places::NONE;
-use crate::places::VARIABLE;
 use crate::places::head_count;
 use crate::places::padded_at;
 use crate::tables::base_table;
+use codes::NONE;
+use codes::SLOTS;
+use codes::VARIABLE;
+use spec::MOST_HEAD;
 
 // The words of the head's terms, and NONE where they have ended.
-pub fn head_words(body: &[u8]) -> [u64; 8]
+pub fn head_words(body: &[u8]) -> [u64; MOST_HEAD]
     requires { ⌜ Laid (now body) ⌝ }
     ensures { λ r. ⌜ HeadWords (now (body .entry)) r ⌝ }
 {
     let heads = head_count(body);
     let table = base_table(VARIABLE);
-    let mut words = [NONE; 8];
+    let mut words = [NONE; MOST_HEAD];
     let mut k: usize = 0;
-    while k < 8 {
+    while k < MOST_HEAD {
         words[k] = padded_at(body, 2, heads, k, &table);
         k += 1;
     }
@@ -24,12 +26,12 @@ pub fn head_words(body: &[u8]) -> [u64; 8]
 }
 
 // "head to head place by place": both witnesses begin with each head variable bound to its own word, and nothing else.
-pub fn head_bindings(body: &[u8]) -> [u64; 64]
+pub fn head_bindings(body: &[u8]) -> [u64; SLOTS]
     requires { ⌜ Laid (now body) ⌝ }
     ensures { λ r. ⌜ HeadBindings (now (body .entry)) r ⌝ }
 {
     let heads = head_count(body);
-    let mut bound = [0u64; 64];
+    let mut bound = [0u64; SLOTS];
     let mut next: usize = 0;
     while next < heads {
         let at = 2 + 5 * next;

@@ -4,15 +4,10 @@ ghost use Prim.Native.Nat.{_<_};
 ghost use Rattle.rule_codes.specs.Laid.{Laid};
 ghost use Rattle.rule_codes.specs.Promises.{HeadCount, GoalCount};
 ghost use Rattle.rule_codes.specs.Steps.{SomeTerm, SomeTerms, WordAt, PaddedAt};
+use codes::CONSTANT;
+use codes::NONE;
 use numbers::wide;
-
-// The tags of a variable and of a constant, in units of 2^32.
-pub const VARIABLE: u64 = 4294967296;
-
-pub const CONSTANT: u64 = 8589934592;
-
-// The word where a subgoal's terms have ended.
-pub const NONE: u64 = 1;
+use spec::VARIABLES;
 
 // "one byte head length"
 pub fn head_count(body: &[u8]) -> usize
@@ -31,7 +26,7 @@ pub fn goal_count(body: &[u8]) -> usize
 }
 
 // The word of the term at `at`; the table has the variables' words.
-pub fn word_at(body: &[u8], at: usize, table: &[u64; 32]) -> u64
+pub fn word_at(body: &[u8], at: usize, table: &[u64; VARIABLES]) -> u64
     requires { ⌜ SomeTerm (now body) at ⌝ }
     ensures { λ r. ⌜ WordAt (now (body .entry)) at (now (table .entry)) r ⌝ }
 {
@@ -43,7 +38,7 @@ pub fn word_at(body: &[u8], at: usize, table: &[u64; 32]) -> u64
 }
 
 // Word k of the terms from `at` on.
-pub fn padded_at(body: &[u8], at: usize, many: usize, k: usize, table: &[u64; 32]) -> u64
+pub fn padded_at(body: &[u8], at: usize, many: usize, k: usize, table: &[u64; VARIABLES]) -> u64
     requires { ⌜ SomeTerms (now body) at many ⌝ }
     ensures { λ r. ⌜ PaddedAt (now (body .entry)) at many k (now (table .entry)) r ⌝ }
 {

@@ -4,9 +4,11 @@ ghost use lib.ListN.{length};
 ghost use Rattle.rule_codes.specs.Laid.{QuestionLaid};
 ghost use Rattle.rule_codes.specs.BodyTerms.{BodyTerms};
 use crate::ascending::ascending;
-use crate::places::VARIABLE;
 use crate::subgoals::put_subgoals;
 use crate::tables::base_table;
+use codes::QUESTION_CODES;
+use codes::SUBGOAL_CODES;
+use codes::VARIABLE;
 
 // The terms of a question's body, as words, ascending and each once, at the front of `out`. (A summary's row has no other terms.) Returns how many there are.
 pub fn body_terms(body: &[u8], relations: &[u8], out: &mut [u64]) -> usize
@@ -14,7 +16,7 @@ pub fn body_terms(body: &[u8], relations: &[u8], out: &mut [u64]) -> usize
     ensures { λ r. ⌜ BodyTerms (now (relations .entry)) (now (body .entry)) (now (out .entry)) (now (out .exit)) r ⌝ }
 {
     let table = base_table(VARIABLE);
-    let mut words = [0u64; 108];
-    let used = 9 * put_subgoals(body, relations, &table, &mut words);
+    let mut words = [0u64; QUESTION_CODES];
+    let used = SUBGOAL_CODES * put_subgoals(body, relations, &table, &mut words);
     ascending(&words[..used], out)
 }

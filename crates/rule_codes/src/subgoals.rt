@@ -9,7 +9,10 @@ ghost use Rattle.rule_codes.specs.Steps.{SomeGoal, NineAt};
 use crate::places::goal_count;
 use crate::places::head_count;
 use crate::places::padded_at;
+use codes::SUBGOAL_CODES;
 use numbers::wide;
+use spec::MOST_ARITY;
+use spec::VARIABLES;
 
 // The arity of the relation whose number stands at `at`.
 fn arity_at(body: &[u8], at: usize, relations: &[u8]) -> usize
@@ -20,20 +23,32 @@ fn arity_at(body: &[u8], at: usize, relations: &[u8]) -> usize
 }
 
 // The subgoal at `at`: its relation and eight terms, from `to` on.
-fn put_subgoal(body: &[u8], at: usize, arity: usize, table: &[u64; 32], out: &mut [u64], to: usize)
+fn put_subgoal(
+    body: &[u8],
+    at: usize,
+    arity: usize,
+    table: &[u64; VARIABLES],
+    out: &mut [u64],
+    to: usize,
+)
     requires { ⌜ SomeGoal (now body) at arity × (to + 9 ≤ length (now out)) ⌝ }
     ensures { λ _. ⌜ NineAt (now (body .entry)) at arity to (now (table .entry)) (now (out .entry)) (now (out .exit)) ⌝ }
 {
     out[to] = wide(body[at]) as u64;
     let mut k: usize = 0;
-    while k < 8 {
+    while k < MOST_ARITY {
         out[to + 1 + k] = padded_at(body, at + 1, arity, k, table);
         k += 1;
     }
 }
 
 // The words of every subgoal at the front of `out`; the table has the variables' words. Returns how many subgoals there are.
-pub fn put_subgoals(body: &[u8], relations: &[u8], table: &[u64; 32], out: &mut [u64]) -> usize
+pub fn put_subgoals(
+    body: &[u8],
+    relations: &[u8],
+    table: &[u64; VARIABLES],
+    out: &mut [u64],
+) -> usize
     requires { ⌜ LaidFor (now relations) (now body) 9 (length (now out)) ⌝ }
     ensures { λ r. ⌜ BodyWords (now (relations .entry)) (now (body .entry)) (tabled (now (table .entry))) (now (out .entry)) (now (out .exit)) r ⌝ }
 {
@@ -42,7 +57,7 @@ pub fn put_subgoals(body: &[u8], relations: &[u8], table: &[u64; 32], out: &mut 
     let mut i: usize = 0;
     while i < goals {
         let arity = arity_at(body, at, relations);
-        put_subgoal(body, at, arity, table, out, 9 * i);
+        put_subgoal(body, at, arity, table, out, SUBGOAL_CODES * i);
         at += 1 + 5 * arity;
         i += 1;
     }

@@ -2,18 +2,19 @@
 ghost use Rattle.rule_codes.specs.Codes.{Base};
 ghost use Rattle.rule_codes.specs.Laid.{SomeUse};
 ghost use Rattle.rule_codes.specs.Tables.{BaseTable, TermWord, OldWord, UseTable};
-use crate::places::CONSTANT;
-use crate::places::VARIABLE;
 use crate::places::head_count;
+use codes::CONSTANT;
+use codes::VARIABLE;
+use spec::VARIABLES;
 
 // The variables count from the base on.
-pub fn base_table(base: u64) -> [u64; 32]
+pub fn base_table(base: u64) -> [u64; VARIABLES]
     requires { ⌜ Base base ⌝ }
     ensures { λ r. ⌜ BaseTable base 32 r ⌝ }
 {
-    let mut table = [0u64; 32];
+    let mut table = [0u64; VARIABLES];
     let mut x: usize = 0;
-    while x < 32 {
+    while x < VARIABLES {
         table[x] = base + x as u64;
         x += 1;
     }
@@ -32,7 +33,7 @@ fn old_word(word: u64, olds: u64) -> u64
 }
 
 // The words of a summary's variables in one use: those of its head have the row's terms, the others count from the base on.
-pub fn use_table(body: &[u8], row: &[u64], olds: u64, base: u64) -> [u64; 32]
+pub fn use_table(body: &[u8], row: &[u64], olds: u64, base: u64) -> [u64; VARIABLES]
     requires { ⌜ SomeUse (now body) (now row) × Base olds × Base base ⌝ }
     ensures { λ r. ⌜ UseTable (now (body .entry)) (now (row .entry)) olds base r ⌝ }
 {

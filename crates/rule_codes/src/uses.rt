@@ -5,12 +5,14 @@ ghost use Rattle.codes.specs.Code.{ownCode, ownSlot, keptSlot};
 ghost use Rattle.rule_codes.specs.Codes.{Base, basedUse};
 ghost use Rattle.rule_codes.specs.Laid.{UseFor};
 ghost use Rattle.rule_codes.specs.Uses.{UseWords};
-use crate::places::VARIABLE;
 use crate::subgoals::put_subgoals;
 use crate::tables::use_table;
+use codes::FRESH;
+use codes::VARIABLE;
+use spec::VARIABLES;
 
-// The tag of a use's own variable, in units of 2^32.
-const FRESH: u64 = 12884901888;
+// Each use has as many variables of its own; as slots they stand behind the shared ones.
+const OWN: u64 = VARIABLES as u64;
 
 // The list's variables count from one base, the use's own from another.
 fn use_words(
@@ -33,7 +35,7 @@ pub fn own_words(body: &[u8], relations: &[u8], row: &[u64], u: u64, out: &mut [
     requires { ⌜ UseFor (now relations) (now body) (now row) (length (now out)) × (u < 64) ⌝ }
     ensures { λ r. ⌜ UseWords (now (relations .entry)) (now (body .entry)) (now (row .entry)) ownCode u (now (out .entry)) (now (out .exit)) r ⌝ }
 {
-    use_words(body, relations, row, VARIABLE, FRESH + 32 * u, out)
+    use_words(body, relations, row, VARIABLE, FRESH + OWN * u, out)
 }
 
 // A use as a source: the list's variables are slots 0 to 31, the use's own 32 to 63.
@@ -41,7 +43,7 @@ pub fn own_slots(body: &[u8], relations: &[u8], row: &[u64], out: &mut [u64]) ->
     requires { ⌜ UseFor (now relations) (now body) (now row) (length (now out)) ⌝ }
     ensures { λ r. ⌜ ((u : ℕ) → UseWords (now (relations .entry)) (now (body .entry)) (now (row .entry)) ownSlot u (now (out .entry)) (now (out .exit)) r) ⌝ }
 {
-    use_words(body, relations, row, 0, 32, out)
+    use_words(body, relations, row, 0, OWN, out)
 }
 
 // A use as a source that keeps the list's terms: only the use's own variables are slots.

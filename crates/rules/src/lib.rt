@@ -7,11 +7,12 @@ ghost use Rattle.rules.specs.Judged.{Judged};
 
 mod subgoals; // terms and subgoals, read from the front
 
-use numbers::wide;
 use crate::subgoals::Marks;
 use crate::subgoals::Step;
 use crate::subgoals::read_subgoals;
 use crate::subgoals::read_terms;
+use numbers::wide;
+use spec::MOST_HEAD;
 // a verdict tells the fault, so those who ask for one find it here
 pub use crate::subgoals::Fault;
 
@@ -57,7 +58,7 @@ fn read_rule(body: &[u8], relations: &[u8], most: usize) -> Whole
         return Whole::Bad(Fault::Early);
     }
     let heads = wide(body[0]);
-    if 8 < heads {
+    if MOST_HEAD < heads {
         return Whole::Bad(Fault::Count);
     }
     if body.len() < 2 {

@@ -6,6 +6,10 @@ ghost use Rattle.spec.specs.Words.{var, con};
 ghost use Rattle.spec.proofs.Bytes.RuleReading.{readTerm, readMany, readSubgoal};
 ghost use Rattle.rules.specs.Marked.{mark, marks, goalMarks, ofGoal, stepped};
 use numbers::wide;
+use spec::VARIABLES;
+
+// "a variable, numbered 0 to 31"
+const VARIABLE_END: u32 = VARIABLES as u32;
 
 // The ways to break the layout.
 pub enum Fault {
@@ -75,7 +79,7 @@ fn read_term(body: &[u8], at: usize, m: Marks) -> Step
     if tag == 1 {
         return Step::Next(at + 5, unmarked(m));
     }
-    if n < 32 {
+    if n < VARIABLE_END {
         return Step::Next(at + 5, marked(m, n));
     }
     Step::Bad(Fault::Variable)

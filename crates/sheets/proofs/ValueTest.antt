@@ -14,6 +14,7 @@ use Rattle.spec.proofs.Lists.Tests.{and-parts, any, any-sound}
 use Rattle.spec.proofs.Decided.Equal.{eqNumber, eqList}
 use Rattle.spec.proofs.Examples.Values.{Sheet, sheets, Meant, meant}
 use Rattle.spec.specs.BookLayout.{SoundBook}
+use Rattle.spec.specs.Refusals.{ofBook}
 use Rattle.spec.specs.Table.{mostRows, Fault1, Fault9, Refused, nine, ten}
 use Rattle.spec.specs.Given.{answerBytes, witnessBytes}
 use Rattle.outcomes.proofs.Grants.{value-safe}
@@ -82,17 +83,17 @@ module _ (book : List ℕ) where
         by : (v : Sheet) → v ∈ sheets → T (acceptedAs answer witness v) → GivenAs book answer witness n m
         by v i t = let w = and-parts (few (v .book)) (laidOut answer witness (v .book .question) (v .expected)) t in told v (few-sound (v .book) (w .0)) (v .expected) (meant v i) (w .1)
 
-    pub refused-sound : T refused → Refused book n m 10 0
+    pub refused-sound : T refused → Refused book n m (ofBook 10)
     refused-sound h = let s = any-sound refusedAs sheets h in by (s .0) (s .1) (s .2)
       where
-        told : (v : Sheet) → Few (v .book) → (o : Option Answered) → Meant (v .book) o → T (nothing o) → Refused book n m 10 0
+        told : (v : Sheet) → Few (v .book) → (o : Option Answered) → Meant (v .book) o → T (nothing o) → Refused book n m (ofBook 10)
         told v f none never t = ten room (v .book) (f .sound) (f .at-most) never
         told v f (some a) right t = absurd t
 
-        by : (v : Sheet) → v ∈ sheets → T (refusedAs v) → Refused book n m 10 0
+        by : (v : Sheet) → v ∈ sheets → T (refusedAs v) → Refused book n m (ofBook 10)
         by v i t = let w = and-parts (few (v .book)) (nothing (v .expected)) t in told v (few-sound (v .book) (w .0)) (v .expected) (meant v i) (w .1)
 
-    pub many-sound : (b : Book) → T (many b) → Refused book n m 9 0
+    pub many-sound : (b : Book) → T (many b) → Refused book n m (ofBook 9)
     many-sound b h =
         let w = and-parts (soundBook book b) (ltb mostRows (rowCount b)) h in
         let s = book-sound book b (w .0) in

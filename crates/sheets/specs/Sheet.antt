@@ -3,6 +3,7 @@ use mathlib.Core.Path.{_≡_}
 use mathlib.Core.List.{List}
 use Prim.Native.Nat.{ℕ}
 use Rattle.spec.specs.Refresh.{Lead, lead}
+use Rattle.spec.specs.Refusals.{ofEntry}
 use Rattle.spec.specs.Table.{Fault1, Refused}
 use Rattle.spec.specs.Given.{Given, answerBytes, witnessBytes}
 
@@ -21,5 +22,5 @@ pub record GivenAs (book answer witness : List ℕ) (n m : ℕ) : Type 0 where
 -- What the sheet says comes true, whatever areas are lent that are long enough ("answer area below 534 bytes, or witness area below 120" is number 1).
 abbrev pub ComesTrue : Sheet → Type 0
 ComesTrue (accepts book answer witness) = (n m : ℕ) → (Fault1 n m → ⊥) → GivenAs book answer witness n m
-ComesTrue (refuses book number place) = (n m : ℕ) → (Fault1 n m → ⊥) → Refused book n m number place
+ComesTrue (refuses book number place) = (n m : ℕ) → (Fault1 n m → ⊥) → Refused book n m (ofEntry number place)
 ComesTrue (leads need stamp l) = lead need stamp ≡ l

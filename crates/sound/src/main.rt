@@ -4,15 +4,16 @@
 //     sound many       standard input is many books, each after its length (4 bytes, little-endian)
 //     sound repeat     standard input is a book, read 10,000 times for timing: how often it was sound
 ghost use Prim.Native.Nat.{_≤_};
-use spec::Reading;
 use books::read_book;
 use check::same;
 use libc::STDIN_FILENO;
 use libc::STDOUT_FILENO;
+use spec::LONGEST_BOOK;
+use spec::Reading;
 
 // One byte more than the longest sound book: what a book has past that changes nothing, it is
 // refused with 2.
-const ROOM: usize = 25041;
+const ROOM: usize = LONGEST_BOOK + 1;
 
 // The first byte of the need: the stamp of entry 1.
 const NEED: usize = 22;
@@ -22,7 +23,7 @@ fn print_reading(reading: Reading) {
         Reading::Sound => {
             io::write_all(STDOUT_FILENO, b"sound\n");
         }
-        Reading::Refused(number, place) => console::print_refusal(number, place),
+        Reading::Refused(why) => console::print_refusal(why.number, why.place),
     }
 }
 
@@ -65,7 +66,7 @@ fn read_again(book: &mut [u8], need: u32) -> u32
     book[NEED] = (need % 256) as u8;
     match read_book(book) {
         Reading::Sound => 1,
-        Reading::Refused(_, _) => 0,
+        Reading::Refused(_) => 0,
     }
 }
 

@@ -53,10 +53,16 @@ unfoldable pub bookBytes : Book → List ℕ
 bookBytes b = little 2 (length (b .summaries)) ++ (contentsFrom (contentsEnd (length (b .summaries))) (entriesOf b) ++ joined (bodies (entriesOf b)))
 
 -- "Relations: 1 to 32 bytes, each an arity 1 to 8."
+abbrev pub mostRelations : ℕ
+mostRelations = 32
+
+abbrev pub mostArity : ℕ
+mostArity = 8
+
 pub record Arities (arities : List ℕ) : Type 0 where
   pub some : 1 ≤ length arities
-  pub few : length arities ≤ 32
-  pub range : (a : ℕ) → a ∈ arities → (1 ≤ a) × (a ≤ 8)
+  pub few : length arities ≤ mostRelations
+  pub range : (a : ℕ) → a ∈ arities → (1 ≤ a) × (a ≤ mostArity)
 
 -- A rule of an entry that is within the bounds, safe and, where it is a summary, with a head of distinct variables.
 pub record SoundQuestion (arities : List ℕ) (r : Rule ℕ) : Type 0 where

@@ -5,6 +5,7 @@ use mathlib.Core.List.{List}
 use Prim.Native.Nat.{ℕ, zero, suc, _+_, _<_, _≤_}
 use lib.ListN.{length}
 use Rattle.spec.specs.Words.{Rule, Safe, DistinctVariables}
+use Rattle.spec.specs.declared.Reason.{Reason}
 use Rattle.spec.specs.RuleLayout.{Layout}
 use Rattle.spec.specs.BookLayout.{mostSummaries, questionMost, summaryMost}
 use Rattle.spec.specs.Contents.{count, entriesIn, partAt, NoGaps, RightRelations}
@@ -72,15 +73,23 @@ pub record Reached (book : List ℕ) (i : ℕ) : Type 0 where
   pub within : i < entriesIn book
   pub before : (j : ℕ) → 1 ≤ j → j < i → SoundEntry book j
 
--- "Order: 1 to 5, then entry by entry 6, 7, 8": the refusal number and its place.
-pub data Refusal (book : List ℕ) : ℕ → ℕ → Type 0 where
-  two : Fault2 book → Refusal book 2 0
-  three : (Fault2 book → ⊥) → Fault3 book → Refusal book 3 0
-  four : (Fault2 book → ⊥) → (Fault3 book → ⊥) → Fault4 book → Refusal book 4 0
-  five : (Fault2 book → ⊥) → (Fault3 book → ⊥) → NoGaps book → Fault5 book → Refusal book 5 0
-  six : {i : ℕ} → Reached book i → Fault6 book i → Refusal book 6 i
-  seven : {i : ℕ} → Reached book i → Fault7 book i → Refusal book 7 i
-  eight : {i : ℕ} → Reached book i → ((r : Rule ℕ) → Reads book i r → Safe r) → Fault8 book i → Refusal book 8 i
+-- "A refusal returns number and place": 0 is the place of what is not said of one rule ..
+abbrev pub ofBook : ℕ → Reason
+ofBook k = record { number = k; place = 0 }
+
+-- .. and a faulty rule's place is its entry
+abbrev pub ofEntry : ℕ → ℕ → Reason
+ofEntry k i = record { number = k; place = i }
+
+-- "Order: 1 to 5, then entry by entry 6, 7, 8": the refusal of a book.
+pub data Refusal (book : List ℕ) : Reason → Type 0 where
+  two : Fault2 book → Refusal book (ofBook 2)
+  three : (Fault2 book → ⊥) → Fault3 book → Refusal book (ofBook 3)
+  four : (Fault2 book → ⊥) → (Fault3 book → ⊥) → Fault4 book → Refusal book (ofBook 4)
+  five : (Fault2 book → ⊥) → (Fault3 book → ⊥) → NoGaps book → Fault5 book → Refusal book (ofBook 5)
+  six : {i : ℕ} → Reached book i → Fault6 book i → Refusal book (ofEntry 6 i)
+  seven : {i : ℕ} → Reached book i → Fault7 book i → Refusal book (ofEntry 7 i)
+  eight : {i : ℕ} → Reached book i → ((r : Rule ℕ) → Reads book i r → Safe r) → Fault8 book i → Refusal book (ofEntry 8 i)
 
 -- A book that nothing turns down.
 pub record Passes (book : List ℕ) : Type 0 where

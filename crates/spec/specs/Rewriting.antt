@@ -4,6 +4,7 @@ use mathlib.Core.List.{List}
 use Prim.Native.Nat.{ℕ}
 use lib.ListN.{length}
 use Rattle.spec.specs.Table.{Refused}
+use Rattle.spec.specs.declared.Reason.{Reason}
 use Rattle.spec.specs.declared.Outcome.{Outcome}
 use Rattle.spec.specs.declared.Outcome.the-variants.{Done, Refused as RefusedWith}
 use Rattle.spec.specs.Given.{written, answerBytes, witnessBytes, Given}
@@ -18,11 +19,11 @@ pub record Accepted (book answer answer′ witness witness′ : List ℕ) (n m :
 
 module _ (book answer answer′ witness witness′ : List ℕ) where
   -- "A refusal returns number and place; no lent byte or record changes."
-  pub record TurnedDown (k p : ℕ) : Type 0 where
-    pub refused : Refused book (length answer) (length witness) k p
+  pub record TurnedDown (r : Reason) : Type 0 where
+    pub refused : Refused book (length answer) (length witness) r
     pub answer-stays : answer′ ≡ answer
     pub witness-stays : witness′ ≡ witness
 
   abbrev pub Rewriting : Outcome → Type 0
   Rewriting (Done n m) = Accepted book answer answer′ witness witness′ n m
-  Rewriting (RefusedWith k p) = TurnedDown k p
+  Rewriting (RefusedWith r) = TurnedDown r

@@ -26,17 +26,25 @@ subgoalsBytes gs = joined (map subgoalBytes gs)
 abbrev pub ruleBytes : Rule ℕ → List ℕ
 ruleBytes r = length (r .head) ∷ length (r .body) ∷ termsBytes (r .head) ++ subgoalsBytes (r .body)
 
+-- "a variable, numbered 0 to 31": how many there are
+abbrev pub variables : ℕ
+variables = 32
+
 -- "A term is a variable, numbered 0 to 31, or a constant, any 32-bit number."
 abbrev pub TermWithin : Term ℕ → Type 0
-TermWithin (var v) = v < 32
+TermWithin (var v) = v < variables
 TermWithin (con c) = c < 4294967296
 
 abbrev pub TermsWithin : List (Term ℕ) → Type 0
 TermsWithin ts = (t : Term ℕ) → t ∈ ts → TermWithin t
 
--- "a head (0 to 8 terms)"; "subgoal count (question 1 to 12, summary 1 to 8)": at most `most`; each subgoal of a relation there is, as long as its arity.
+-- "a head (0 to 8 terms)"
+abbrev pub mostHead : ℕ
+mostHead = 8
+
+-- The head within its bound; "subgoal count (question 1 to 12, summary 1 to 8)": at most `most`; each subgoal of a relation there is, as long as its arity.
 pub record RuleWithin (arities : List ℕ) (most : ℕ) (r : Rule ℕ) : Type 0 where
-  pub short : length (r .head) ≤ 8
+  pub short : length (r .head) ≤ mostHead
   pub some : 1 ≤ length (r .body)
   pub few : length (r .body) ≤ most
   pub head : TermsWithin (r .head)

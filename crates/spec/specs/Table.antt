@@ -9,7 +9,8 @@ use Rattle.spec.specs.Order.{Ascending}
 use Rattle.spec.specs.Answer.{Rewrites}
 use Rattle.spec.specs.Book.{Book, admittedOf}
 use Rattle.spec.specs.BookLayout.{SoundBook}
-use Rattle.spec.specs.Refusals.{Refusal}
+use Rattle.spec.specs.Refusals.{ofBook, Refusal}
+use Rattle.spec.specs.declared.Reason.{Reason}
 
 -- "answer area below 534 bytes, or witness area below 120"
 unfoldable pub answerRoom : ℕ
@@ -35,9 +36,9 @@ pub record Fault9 (s : Summaries) (q : Rule ℕ) : Type 0 where
 abbrev pub Fault10 : Summaries → Rule ℕ → Type 0
 Fault10 s q = (l : List (Subgoal (Term ℕ))) → Rewrites s q l → ⊥
 
--- "Order: 1 to 5, then entry by entry 6, 7, 8, then 9, then 10." answer and witness are the areas' lengths; number and place.
-pub data Refused (book : List ℕ) (answer witness : ℕ) : ℕ → ℕ → Type 0 where
-  one : Fault1 answer witness → Refused book answer witness 1 0
-  read : {k p : ℕ} → (Fault1 answer witness → ⊥) → Refusal book k p → Refused book answer witness k p
-  nine : (Fault1 answer witness → ⊥) → (b : Book) → SoundBook book b → Fault9 (admittedOf b) (b .question) → Refused book answer witness 9 0
-  ten : (Fault1 answer witness → ⊥) → (b : Book) → SoundBook book b → (Fault9 (admittedOf b) (b .question) → ⊥) → Fault10 (admittedOf b) (b .question) → Refused book answer witness 10 0
+-- "Order: 1 to 5, then entry by entry 6, 7, 8, then 9, then 10." answer and witness are the areas' lengths.
+pub data Refused (book : List ℕ) (answer witness : ℕ) : Reason → Type 0 where
+  one : Fault1 answer witness → Refused book answer witness (ofBook 1)
+  read : {r : Reason} → (Fault1 answer witness → ⊥) → Refusal book r → Refused book answer witness r
+  nine : (Fault1 answer witness → ⊥) → (b : Book) → SoundBook book b → Fault9 (admittedOf b) (b .question) → Refused book answer witness (ofBook 9)
+  ten : (Fault1 answer witness → ⊥) → (b : Book) → SoundBook book b → (Fault9 (admittedOf b) (b .question) → ⊥) → Fault10 (admittedOf b) (b .question) → Refused book answer witness (ofBook 10)

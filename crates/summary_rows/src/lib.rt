@@ -12,6 +12,9 @@ mod row_places; // rows as places of the head
 
 use crate::row_places::first_row;
 use crate::row_places::next_row;
+use codes::SUBGOAL_CODES;
+use codes::USES_GOALS;
+use spec::MOST_ROWS;
 
 // How many rows stand in the table, and whether there are more than it may have.
 pub struct Tally {
@@ -20,7 +23,7 @@ pub struct Tally {
 }
 
 // Word i of a row: its summary's number, the words of its terms, and 1 where they have ended.
-fn row_word(target: &[u64], number: u64, head: usize, ks: [u16; 96], i: usize) -> u64
+fn row_word(target: &[u64], number: u64, head: usize, ks: [u16; USES_GOALS], i: usize) -> u64
     requires { ⌜ InReach (now target) ks head ⌝ }
     requires { ⌜ i < 9 ⌝ }
     ensures { λ r. ⌜ r ≡ getD (rowWords number (now (target .entry)) (take head ks)) i 0 ⌝ }
@@ -30,20 +33,27 @@ fn row_word(target: &[u64], number: u64, head: usize, ks: [u16; 96], i: usize) -
     }
     if i <= head {
         let k = ks[i - 1] as usize;
-        return target[9 * k + 1];
+        return target[SUBGOAL_CODES * k + 1];
     }
     1
 }
 
 // A row's nine words, behind `count` rows.
-fn put_row(target: &[u64], number: u64, head: usize, ks: [u16; 96], count: usize, out: &mut [u64])
+fn put_row(
+    target: &[u64],
+    number: u64,
+    head: usize,
+    ks: [u16; USES_GOALS],
+    count: usize,
+    out: &mut [u64],
+)
     requires { ⌜ InReach (now target) ks head ⌝ }
     requires { ⌜ 9 * count + 9 ≤ length (now out) ⌝ }
     ensures { λ _. ⌜ now (out .exit) ≡ paste (now (out .entry)) (9 * count) (rowWords number (now (target .entry)) (take head ks)) 9 ⌝ }
 {
-    let at = 9 * count;
+    let at = SUBGOAL_CODES * count;
     let mut i: usize = 0;
-    while i < 9 {
+    while i < SUBGOAL_CODES {
         out[at + i] = row_word(target, number, head, ks, i);
         i += 1;
     }
@@ -69,7 +79,7 @@ pub fn rows_of(
     let mut ks = first.ks;
     let mut count = found;
     while ok {
-        if count == 64 {
+        if count == MOST_ROWS {
             return Tally { over: true, count };
         }
         put_row(target, number, head, ks, count, out);

@@ -7,14 +7,20 @@ ghost use Rattle.task.specs.Task.{posed};
 ghost use Rattle.spec.specs.Order.{ListBefore, First};
 ghost use Rattle.summary_rows.specs.RowPlaces.{HeadTask, AtRow, AtFront, OnTargets, PlacesWith, StartPlaces, NextPlaces, Begins, NextPlace};
 ghost use Rattle.summary_rows.specs.FixedPlaces.{binding, fixing, InReach};
+use codes::SLOTS;
+use codes::SUBGOAL_CODES;
+use codes::USES_GOALS;
 use placing::Places;
 use placing::places_from;
 
+// A source term below this is a slot.
+const SLOT_END: u64 = SLOTS as u64;
+
 // The bindings with a word for a source term, if that is a slot.
-fn bound(g: [u64; 64], x: u64, y: u64) -> [u64; 64]
+fn bound(g: [u64; SLOTS], x: u64, y: u64) -> [u64; SLOTS]
     ensures { λ r. ⌜ r ≡ binding g x y ⌝ }
 {
-    if x < 64 {
+    if x < SLOT_END {
         let mut r = g;
         r[x as usize] = y;
         return r;
@@ -23,16 +29,20 @@ fn bound(g: [u64; 64], x: u64, y: u64) -> [u64; 64]
 }
 
 // The bindings that put the first j source subgoals on the targets ks.
-fn fixed(source: &[u64], target: &[u64], j: usize, ks: [u16; 96]) -> [u64; 64]
+fn fixed(source: &[u64], target: &[u64], j: usize, ks: [u16; USES_GOALS]) -> [u64; SLOTS]
     requires { ⌜ InReach (now target) ks j ⌝ }
     requires { ⌜ 9 * j ≤ length (now source) ⌝ }
     ensures { λ r. ⌜ r ≡ fixing (now (source .entry)) (now (target .entry)) ks j ⌝ }
 {
-    let mut g = [0u64; 64];
+    let mut g = [0u64; SLOTS];
     let mut i: usize = 0;
     while i < j {
         let k = ks[i] as usize;
-        let more = bound(g, source[9 * i + 1], target[9 * k + 1]);
+        let more = bound(
+            g,
+            source[SUBGOAL_CODES * i + 1],
+            target[SUBGOAL_CODES * k + 1],
+        );
         g = more;
         i += 1;
     }
@@ -49,7 +59,7 @@ fn row_begins(
     own: &[u8],
     head: usize,
     j: usize,
-    ks: [u16; 96],
+    ks: [u16; USES_GOALS],
 ) -> bool
     requires { ⌜ OnTargets (posed (now source) (now widths) (now lasts) (now target) (now own)) head j ks ⌝ }
     ensures { λ r. ⌜ Begins (posed (now (source .entry)) (now (widths .entry)) (now (lasts .entry)) (now (target .entry)) (now (own .entry))) head j ks r ⌝ }
@@ -68,7 +78,7 @@ fn next_place(
     own: &[u8],
     head: usize,
     j: usize,
-    ks: [u16; 96],
+    ks: [u16; USES_GOALS],
     from: usize,
 ) -> Places
     requires { ⌜ AtFront (posed (now source) (now widths) (now lasts) (now target) (now own)) head j ks ⌝ }
@@ -79,7 +89,7 @@ fn next_place(
     'targets: while next < own.len() {
         let k = next;
         next = k + 1;
-        if target[9 * k] != source[9 * j] {
+        if target[SUBGOAL_CODES * k] != source[SUBGOAL_CODES * j] {
             continue 'targets;
         }
         let mut all = ks;
@@ -100,8 +110,8 @@ fn row_with(
     own: &[u8],
     head: usize,
     j: usize,
-    ks: [u16; 96],
-) -> [u16; 96]
+    ks: [u16; USES_GOALS],
+) -> [u16; USES_GOALS]
     requires { ⌜ AtFront (posed (now source) (now widths) (now lasts) (now target) (now own)) head j ks ⌝ }
     ensures { λ r. ⌜ First (PlacesWith (posed (now (source .entry)) (now (widths .entry)) (now (lasts .entry)) (now (target .entry)) (now (own .entry))) head j ks) (ListBefore _<_) (take head r) × (drop head r ≡ drop head ks) ⌝ }
 {
@@ -128,7 +138,7 @@ pub fn first_row(
     requires { ⌜ HeadTask (posed (now source) (now widths) (now lasts) (now target) (now own)) head ⌝ }
     ensures { λ r. ⌜ StartPlaces (posed (now (source .entry)) (now (widths .entry)) (now (lasts .entry)) (now (target .entry)) (now (own .entry))) head r ⌝ }
 {
-    let ks = [0u16; 96];
+    let ks = [0u16; USES_GOALS];
     if row_begins(source, widths, lasts, target, own, head, 0, ks) {
         let all = row_with(source, widths, lasts, target, own, head, 0, ks);
         return Places { ok: true, ks: all };
@@ -144,7 +154,7 @@ pub fn next_row(
     target: &[u64],
     own: &[u8],
     head: usize,
-    ks: [u16; 96],
+    ks: [u16; USES_GOALS],
 ) -> Places
     requires { ⌜ AtRow (posed (now source) (now widths) (now lasts) (now target) (now own)) head ks ⌝ }
     ensures { λ r. ⌜ NextPlaces (posed (now (source .entry)) (now (widths .entry)) (now (lasts .entry)) (now (target .entry)) (now (own .entry))) head ks r ⌝ }

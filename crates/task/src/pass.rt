@@ -9,6 +9,9 @@ use crate::terms::alike;
 use crate::terms::opened;
 use crate::terms::stands;
 use crate::terms::width;
+use codes::SLOTS;
+use codes::SUBGOAL_CODES;
+use codes::USES_GOALS;
 
 // A place as an index.
 pub fn wide(k: u16) -> usize
@@ -26,7 +29,7 @@ fn step(
     own: &[u8],
     i: usize,
     k: usize,
-    g: &mut [u64; 64],
+    g: &mut [u64; SLOTS],
 ) -> bool
     requires { ⌜ Sized (posed (now source) (now widths) (now lasts) (now target) (now own)) ⌝ }
     requires { ⌜ i < length (now widths) ⌝ }
@@ -36,12 +39,12 @@ fn step(
     if own.len() <= k {
         return false; // there is no such target
     }
-    if target[9 * k] != source[9 * i] {
+    if target[SUBGOAL_CODES * k] != source[SUBGOAL_CODES * i] {
         return false; // another relation
     }
     for a in 0..width(widths[i]) {
-        let x = source[9 * i + 1 + a];
-        let y = target[9 * k + 1 + a];
+        let x = source[SUBGOAL_CODES * i + 1 + a];
+        let y = target[SUBGOAL_CODES * k + 1 + a];
         let have = stands(g, x);
         if have == 0 {
             g[x as usize] = y;
@@ -60,8 +63,8 @@ fn passes(
     lasts: &[u8],
     target: &[u64],
     own: &[u8],
-    b: [u64; 64],
-    ks: [u16; 96],
+    b: [u64; SLOTS],
+    ks: [u16; USES_GOALS],
 ) -> bool
     requires { ⌜ Sized (posed (now source) (now widths) (now lasts) (now target) (now own)) ⌝ }
     ensures { λ r. ⌜ Follows (posed (now (source .entry)) (now (widths .entry)) (now (lasts .entry)) (now (target .entry)) (now (own .entry))) b ks r ⌝ }
@@ -82,8 +85,8 @@ pub fn follows(
     lasts: &[u8],
     target: &[u64],
     own: &[u8],
-    b: [u64; 64],
-    ks: &[u16; 96],
+    b: [u64; SLOTS],
+    ks: &[u16; USES_GOALS],
 ) -> bool
     requires { ⌜ Sized (posed (now source) (now widths) (now lasts) (now target) (now own)) ⌝ }
     ensures { λ r. ⌜ Follows (posed (now (source .entry)) (now (widths .entry)) (now (lasts .entry)) (now (target .entry)) (now (own .entry))) b (now (ks .entry)) r ⌝ }

@@ -5,14 +5,21 @@ ghost use lib.Dec.{eqb};
 ghost use lib.ListN.{length};
 ghost use Rattle.task.specs.Terms.{stood, noting, Opened};
 
+// A source term below this is a slot.
+const SLOT_END: u64 = SLOTS as u64;
+
 // Two terms are compared by tag, then by number.
+use codes::SLOTS;
+use codes::UNIT;
+use spec::VARIABLES;
+
 pub fn alike(x: u64, y: u64) -> bool
     ensures { λ r. ⌜ r ≡ eqb x y ⌝ }
 {
-    if x / 4294967296 != y / 4294967296 {
+    if x / UNIT != y / UNIT {
         return false;
     }
-    x % 4294967296 == y % 4294967296
+    x % UNIT == y % UNIT
 }
 
 // How many of a subgoal's terms count.
@@ -24,10 +31,10 @@ pub fn width(x: u8) -> usize
 }
 
 // What a source term stands for so far: 0 for a slot that is not bound.
-pub fn stands(g: &[u64; 64], x: u64) -> u64
+pub fn stands(g: &[u64; SLOTS], x: u64) -> u64
     ensures { λ r. ⌜ r ≡ stood (now (g .entry)) x ⌝ }
 {
-    if x < 64 {
+    if x < SLOT_END {
         let slot = x as usize;
         return g[slot];
     }
@@ -38,7 +45,7 @@ pub fn stands(g: &[u64; 64], x: u64) -> u64
 pub fn noted(set: u64, x: u64) -> u64
     ensures { λ r. ⌜ r ≡ noting set x ⌝ }
 {
-    if x < 64 {
+    if x < SLOT_END {
         return bits::add(set, x as u32);
     }
     set
@@ -46,15 +53,15 @@ pub fn noted(set: u64, x: u64) -> u64
 
 // Where a use has ended, the next one's own variables are not bound.
 // (That a lent array is as long as its type says is no fact that the kit gives, so it is asked for.)
-pub fn opened(g: &mut [u64; 64], last: u8)
+pub fn opened(g: &mut [u64; SLOTS], last: u8)
     requires { ⌜ length (now g) ≡ 64 ⌝ }
     ensures { λ _. ⌜ Opened last (now (g .entry)) (now (g .exit)) ⌝ }
 {
     if last == 0 {
         return;
     }
-    let mut x: usize = 32;
-    while x < 64 {
+    let mut x: usize = VARIABLES;
+    while x < SLOTS {
         g[x] = 0;
         x += 1;
     }

@@ -4,11 +4,16 @@ ghost use lib.ListN.{length};
 ghost use Rattle.witness.specs.ThereTold.{Tells};
 ghost use Rattle.witness.specs.BackTold.{BackTold};
 ghost use Rattle.witness.specs.BackSteps.{FromServing, FromTold};
+use crate::bytes::put_places;
 use book_codes::question::question_bindings;
 use book_codes::question::question_target;
 use book_codes::uses::expand_back;
+use codes::QUESTION_CODES;
+use codes::SUBGOAL_CODES;
+use codes::USES_CODES;
+use codes::USES_GOALS;
 use placing::first_places;
-use crate::bytes::put_places;
+use spec::QUESTION_GOALS;
 
 // The uses' subgoals placed on the question's, from `at` on.
 fn back_from(
@@ -22,11 +27,18 @@ fn back_from(
     requires { ⌜ FromServing (now book) (now source) (now widths) (now lasts) × (at + 96 ≤ length (now out)) ⌝ }
     ensures { λ r. ⌜ FromTold (now (book .entry)) (now (source .entry)) (now (widths .entry)) (now (lasts .entry)) at (now (out .entry)) (now (out .exit)) r ⌝ }
 {
-    let mut target = [0u64; 108];
+    let mut target = [0u64; QUESTION_CODES];
     let n = question_target(book, &mut target);
-    let own = [0u8; 12];
+    let own = [0u8; QUESTION_GOALS];
     let b = question_bindings(book);
-    let places = first_places(source, widths, lasts, &target[..9 * n], &own[..n], b);
+    let places = first_places(
+        source,
+        widths,
+        lasts,
+        &target[..SUBGOAL_CODES * n],
+        &own[..n],
+        b,
+    );
     let goals = widths.len();
     put_places(out, at, &places.ks, goals);
     goals
@@ -37,13 +49,13 @@ pub fn put_back(book: &[u8], rows: &[u64], k: usize, out: &mut [u8], at: usize) 
     requires { ⌜ Tells (now book) (now rows) k × (at + 96 ≤ length (now out)) ⌝ }
     ensures { λ r. ⌜ BackTold (now (book .entry)) (now (rows .entry)) k at (now (out .entry)) (now (out .exit)) r ⌝ }
 {
-    let mut source = [0u64; 864];
-    let mut widths = [0u8; 96];
-    let mut lasts = [0u8; 96];
+    let mut source = [0u64; USES_CODES];
+    let mut widths = [0u8; USES_GOALS];
+    let mut lasts = [0u8; USES_GOALS];
     let goals = expand_back(book, rows, k, &mut source, &mut widths, &mut lasts);
     back_from(
         book,
-        &source[..9 * goals],
+        &source[..SUBGOAL_CODES * goals],
         &widths[..goals],
         &lasts[..goals],
         out,

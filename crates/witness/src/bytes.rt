@@ -6,7 +6,9 @@ ghost use lib.Seq.{sets};
 ghost use Rattle.witness.specs.WitnessBytes.{pairBytes, placeBytes, Paired, Placed};
 
 // Two bytes for each of n places: the use that it lies in and its place there, both counted from 1.
-pub fn put_pairs(out: &mut [u8], ks: &[u16; 96], own: &[u8], inner: &[u8], n: usize)
+use codes::USES_GOALS;
+
+pub fn put_pairs(out: &mut [u8], ks: &[u16; USES_GOALS], own: &[u8], inner: &[u8], n: usize)
     requires { ⌜ Paired (now out) (now ks) (now own) (now inner) n ⌝ }
     ensures { λ _. ⌜ now (out .exit) ≡ sets (now (out .entry)) 0 (pairBytes (now (ks .entry)) (now (own .entry)) (now (inner .entry)) 0 n) ⌝ }
 {
@@ -20,7 +22,7 @@ pub fn put_pairs(out: &mut [u8], ks: &[u16; 96], own: &[u8], inner: &[u8], n: us
 }
 
 // One byte for each of n places, counted from 1, from `at` on.
-pub fn put_places(out: &mut [u8], at: usize, ks: &[u16; 96], n: usize)
+pub fn put_places(out: &mut [u8], at: usize, ks: &[u16; USES_GOALS], n: usize)
     requires { ⌜ Placed (now out) at (now ks) n ⌝ }
     ensures { λ _. ⌜ now (out .exit) ≡ sets (now (out .entry)) at (placeBytes (now (ks .entry)) 0 n) ⌝ }
 {

@@ -4,23 +4,35 @@ ghost use Prim.Native.Nat.{_≤_};
 ghost use lib.ListN.{length};
 ghost use Rattle.witness.specs.ThereTold.{Tells, ThereTold};
 ghost use Rattle.witness.specs.ThereSteps.{OntoServing, OntoTold};
+use crate::bytes::put_pairs;
 use book_codes::question::question_bindings;
 use book_codes::question::question_source;
 use book_codes::uses::expand;
+use codes::QUESTION_CODES;
+use codes::SUBGOAL_CODES;
+use codes::USES_CODES;
+use codes::USES_GOALS;
 use placing::first_places;
-use crate::bytes::put_pairs;
+use spec::QUESTION_GOALS;
 
 // The question's subgoals placed on the uses' subgoals.
 fn there_onto(book: &[u8], target: &[u64], own: &[u8], inner: &[u8], out: &mut [u8]) -> usize
     requires { ⌜ OntoServing (now book) (now target) (now own) (now inner) × (24 ≤ length (now out)) ⌝ }
     ensures { λ r. ⌜ OntoTold (now (book .entry)) (now (target .entry)) (now (own .entry)) (now (inner .entry)) (now (out .entry)) (now (out .exit)) r ⌝ }
 {
-    let mut source = [0u64; 108];
-    let mut widths = [0u8; 12];
+    let mut source = [0u64; QUESTION_CODES];
+    let mut widths = [0u8; QUESTION_GOALS];
     let n = question_source(book, &mut source, &mut widths);
-    let lasts = [0u8; 12];
+    let lasts = [0u8; QUESTION_GOALS];
     let b = question_bindings(book);
-    let places = first_places(&source[..9 * n], &widths[..n], &lasts[..n], target, own, b);
+    let places = first_places(
+        &source[..SUBGOAL_CODES * n],
+        &widths[..n],
+        &lasts[..n],
+        target,
+        own,
+        b,
+    );
     put_pairs(out, &places.ks, own, inner, n);
     2 * n
 }
@@ -30,13 +42,13 @@ pub fn put_there(book: &[u8], rows: &[u64], k: usize, out: &mut [u8]) -> usize
     requires { ⌜ Tells (now book) (now rows) k × (24 ≤ length (now out)) ⌝ }
     ensures { λ r. ⌜ ThereTold (now (book .entry)) (now (rows .entry)) k (now (out .entry)) (now (out .exit)) r ⌝ }
 {
-    let mut target = [0u64; 864];
-    let mut own = [0u8; 96];
-    let mut inner = [0u8; 96];
+    let mut target = [0u64; USES_CODES];
+    let mut own = [0u8; USES_GOALS];
+    let mut inner = [0u8; USES_GOALS];
     let goals = expand(book, rows, k, &mut target, &mut own, &mut inner);
     there_onto(
         book,
-        &target[..9 * goals],
+        &target[..SUBGOAL_CODES * goals],
         &own[..goals],
         &inner[..goals],
         out,

@@ -9,6 +9,11 @@ ghost use Rattle.witness_check.specs.WayBack.Steps.{FromConfirms};
 use book_codes::question::question_bindings;
 use book_codes::question::question_target;
 use book_codes::uses::expand_back;
+use codes::QUESTION_CODES;
+use codes::SUBGOAL_CODES;
+use codes::USES_CODES;
+use codes::USES_GOALS;
+use spec::QUESTION_GOALS;
 use task::pass::follows;
 
 // "All count from 1": the place, from 0, that a byte names, or one that is past them all.
@@ -22,11 +27,11 @@ fn before(x: u8) -> u16
 }
 
 // The places that the bytes name.
-fn byte_places(witness: &[u8]) -> [u16; 96]
+fn byte_places(witness: &[u8]) -> [u16; USES_GOALS]
     requires { ⌜ length (now witness) ≤ 96 ⌝ }
     ensures { λ r. ⌜ BytePlaces (now (witness .entry)) (length (now (witness .entry))) r ⌝ }
 {
-    let mut ks = [0u16; 96];
+    let mut ks = [0u16; USES_GOALS];
     let mut i: usize = 0;
     while i < witness.len() {
         ks[i] = before(witness[i]);
@@ -43,12 +48,20 @@ fn back_along(book: &[u8], source: &[u64], widths: &[u8], lasts: &[u8], witness:
     if witness.len() != widths.len() {
         return false;
     }
-    let mut target = [0u64; 108];
+    let mut target = [0u64; QUESTION_CODES];
     let n = question_target(book, &mut target);
-    let own = [0u8; 12];
+    let own = [0u8; QUESTION_GOALS];
     let b = question_bindings(book);
     let ks = byte_places(witness);
-    follows(source, widths, lasts, &target[..9 * n], &own[..n], b, &ks)
+    follows(
+        source,
+        widths,
+        lasts,
+        &target[..SUBGOAL_CODES * n],
+        &own[..n],
+        b,
+        &ks,
+    )
 }
 
 // Whether the bytes are the second part of a witness of k rows.
@@ -56,13 +69,13 @@ pub fn comes_back(book: &[u8], rows: &[u64], k: usize, witness: &[u8]) -> bool
     requires { ⌜ Few (now book) (now rows) k ⌝ }
     ensures { λ r. ⌜ BackConfirms (now (book .entry)) (now (rows .entry)) k (now (witness .entry)) r ⌝ }
 {
-    let mut source = [0u64; 864];
-    let mut widths = [0u8; 96];
-    let mut lasts = [0u8; 96];
+    let mut source = [0u64; USES_CODES];
+    let mut widths = [0u8; USES_GOALS];
+    let mut lasts = [0u8; USES_GOALS];
     let goals = expand_back(book, rows, k, &mut source, &mut widths, &mut lasts);
     back_along(
         book,
-        &source[..9 * goals],
+        &source[..SUBGOAL_CODES * goals],
         &widths[..goals],
         &lasts[..goals],
         witness,

@@ -11,11 +11,16 @@ use book_codes::question::question_bindings;
 use book_codes::question::question_source;
 use book_codes::uses::expand;
 use book_codes::uses::use_starts;
+use codes::QUESTION_CODES;
+use codes::SUBGOAL_CODES;
+use codes::USES_CODES;
+use codes::USES_GOALS;
+use spec::QUESTION_GOALS;
 use task::pass::follows;
 use task::pass::wide;
 
 // The place among all subgoals of a pair of bytes, or one that is past them all. Between the beginnings of two uses lies the first one's own.
-fn place_of(starts: &[u16; 13], k: usize, row: u8, inner: u8) -> u16
+fn place_of(starts: &[u16; QUESTION_GOALS + 1], k: usize, row: u8, inner: u8) -> u16
     requires { ⌜ k ≤ 12 ⌝ }
     ensures { λ r. ⌜ PlaceOf (now (starts .entry)) k row inner r ⌝ }
 {
@@ -38,11 +43,16 @@ fn place_of(starts: &[u16; 13], k: usize, row: u8, inner: u8) -> u16
 }
 
 // The places of n pairs.
-fn pair_places(witness: &[u8], starts: &[u16; 13], k: usize, n: usize) -> [u16; 96]
+fn pair_places(
+    witness: &[u8],
+    starts: &[u16; QUESTION_GOALS + 1],
+    k: usize,
+    n: usize,
+) -> [u16; USES_GOALS]
     requires { ⌜ (k ≤ 12) × (n ≤ 12) × (2 * n ≤ length (now witness)) ⌝ }
     ensures { λ r. ⌜ PairPlaces (now (witness .entry)) (now (starts .entry)) k n r ⌝ }
 {
-    let mut ks = [0u16; 96];
+    let mut ks = [0u16; USES_GOALS];
     let mut i: usize = 0;
     while i < n {
         ks[i] = place_of(starts, k, witness[2 * i], witness[2 * i + 1]);
@@ -56,24 +66,24 @@ fn there_along(
     book: &[u8],
     target: &[u64],
     own: &[u8],
-    starts: &[u16; 13],
+    starts: &[u16; QUESTION_GOALS + 1],
     k: usize,
     witness: &[u8],
 ) -> bool
     requires { ⌜ Stood (now book) (now target) (now own) (now starts) k ⌝ }
     ensures { λ r. ⌜ StoodConfirms (now (book .entry)) (now (target .entry)) (now (own .entry)) (now (starts .entry)) k (now (witness .entry)) r ⌝ }
 {
-    let mut source = [0u64; 108];
-    let mut widths = [0u8; 12];
+    let mut source = [0u64; QUESTION_CODES];
+    let mut widths = [0u8; QUESTION_GOALS];
     let n = question_source(book, &mut source, &mut widths);
     if witness.len() != 2 * n {
         return false;
     }
-    let lasts = [0u8; 12];
+    let lasts = [0u8; QUESTION_GOALS];
     let b = question_bindings(book);
     let ks = pair_places(witness, starts, k, n);
     follows(
-        &source[..9 * n],
+        &source[..SUBGOAL_CODES * n],
         &widths[..n],
         &lasts[..n],
         target,
@@ -88,15 +98,15 @@ pub fn goes_there(book: &[u8], rows: &[u64], k: usize, witness: &[u8]) -> bool
     requires { ⌜ Few (now book) (now rows) k ⌝ }
     ensures { λ r. ⌜ ThereConfirms (now (book .entry)) (now (rows .entry)) k (now (witness .entry)) r ⌝ }
 {
-    let mut target = [0u64; 864];
-    let mut own = [0u8; 96];
-    let mut inner = [0u8; 96];
+    let mut target = [0u64; USES_CODES];
+    let mut own = [0u8; USES_GOALS];
+    let mut inner = [0u8; USES_GOALS];
     let goals = expand(book, rows, k, &mut target, &mut own, &mut inner);
-    let mut starts = [0u16; 13];
+    let mut starts = [0u16; QUESTION_GOALS + 1];
     use_starts(book, rows, k, &mut starts);
     there_along(
         book,
-        &target[..9 * goals],
+        &target[..SUBGOAL_CODES * goals],
         &own[..goals],
         &starts,
         k,

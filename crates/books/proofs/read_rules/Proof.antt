@@ -5,7 +5,7 @@ use borrow.Author.Needs.{needs}
 use denote.Enum.Declared.{tagOf}
 use Rattle.rules.proofs.Verdict as verdict
 use Rattle.rules.specs.declared.Verdict.the-variants.{Sound}
-use Rattle.spec.specs.Refusals.{Refusal}
+use Rattle.spec.specs.Refusals.{ofEntry, Refusal}
 use Rattle.books.proofs.Entries.{Verdicts, all-entries, entry-sound, entry-refused, not-first, SoundUpTo, one-more, all-sound}
 use Rattle.books.proofs.read_rules.Statement.{statement}
 use Rattle.books.proofs.read_rules.Tie as tie
@@ -36,12 +36,13 @@ judge-entry-requires c κs =
 
 returns : tie.Need-returns Inv-loop μ-loop
 returns c =
-    let book = c .before .before .before .before .before .before .before .args .book .now in
-    let e = all-entries book _ _ (c .before .before .before .before .before .before .before .pre .1) (c .before .before .before .before .before .entries-of .ensures) in
-    let l = c .before .before .before .before .loop in
-    subst (λ k. Refusal book k (l .i)) (sym (c .number-of .ensures))
-    (entry-refused book (l .i) (record { loads = c .before .before .before .before .before .before .before .pre .0; rule = l .inv .0; within = omega arith; before = l .inv .1 }) (c .before .before .judge-entry .result)
-    (λ s. not-first _ (c .before .match .keys2) (ap (tagOf verdict.the-type) s)) (c .before .before .judge-entry .ensures))
+    let d = c .before in
+    let book = d .before .before .before .before .before .before .before .args .book .now in
+    let e = all-entries book _ _ (d .before .before .before .before .before .before .before .pre .1) (d .before .before .before .before .before .entries-of .ensures) in
+    let l = d .before .before .before .before .loop in
+    subst (Refusal book) (sym (c .of-entry .ensures ∙ ap (λ k. ofEntry k (l .i)) (d .number-of .ensures)))
+    (entry-refused book (l .i) (record { loads = d .before .before .before .before .before .before .before .pre .0; rule = l .inv .0; within = omega arith; before = l .inv .1 }) (d .before .before .judge-entry .result)
+    (λ s. not-first _ (d .before .match .keys2) (ap (tagOf verdict.the-type) s)) (d .before .before .judge-entry .ensures))
 
 loop-again : tie.Need-loop-again Inv-loop μ-loop
 loop-again c =
@@ -65,6 +66,7 @@ read-rules-spec =
     loop-holds
     judge-entry-requires
     (λ c. search needs)
+    (λ c κs. search needs)
     (λ c κs. search needs)
     returns
     (λ c. search needs)

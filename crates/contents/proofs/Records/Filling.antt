@@ -12,8 +12,8 @@ use Rattle.spec.proofs.Bytes.Within.{loads-room, entries-are, entries-counted}
 use Rattle.spec.specs.TableLoading.{recordAt, recordsFrom, JudgeSays, Afterwards, LoadingSays}
 use Rattle.contents.specs.Records.{recordsOf, Few}
 use Rattle.spec.specs.declared.Entry.{Entry}
-use Rattle.spec.specs.declared.Loading.{Loading}
-use Rattle.spec.specs.declared.Loading.the-variants.{Good, Refused}
+use Rattle.spec.specs.declared.Loaded.{Loaded}
+use Rattle.spec.specs.declared.Loaded.the-variants.{Good, Refused}
 
 -- A record is the one of entry i if its numbers are.
 pub record-is : (book : List ℕ) (i o l s : ℕ) → o ≡ offsetAt book i → l ≡ lengthAt book i → s ≡ stampAt book i → _≡_ {A = Entry} (record { offset = o; length = l; stamp = s }) (recordAt book i)
@@ -66,28 +66,28 @@ pub record Fitting (book : List ℕ) (room many : ℕ) : Type 0 where
   pub within : many ≤ room
   pub long : (i : ℕ) → i < many → 14 + 12 * i ≤ length book
 
-fits : (book : List ℕ) (room : ℕ) (said : Loading) → JudgeSays book room said → Fitting book room (recordsOf said)
+fits : (book : List ℕ) (room : ℕ) (said : Loaded) → JudgeSays book room said → Fitting book room (recordsOf said)
 fits book room (Good n) h =
     let few = h .1 .0 .few in
     let counted = h .1 .1 in
     let two = entries-are n in
     record { within = omega arith; long = λ i l. loads-room book i (h .1 .0) (subst (λ (k : ℕ). i < k) (entries-counted book n (entries n) counted refl) l) }
-fits book room (Refused k) h = record { within = omega arith; long = λ i l. absurd (omega arith) }
+fits book room (Refused r) h = record { within = omega arith; long = λ i l. absurd (omega arith) }
 
-pub fitting : (book : List ℕ) (room : ℕ) (said : Loading) (many : ℕ) → JudgeSays book room said → many ≡ recordsOf said → Fitting book room many
+pub fitting : (book : List ℕ) (room : ℕ) (said : Loaded) (many : ℕ) → JudgeSays book room said → many ≡ recordsOf said → Fitting book room many
 fitting book room said many h e = subst (Fitting book room) (sym e) (fits book room said h)
 
-pub few-said : (book : List ℕ) (room : ℕ) (said : Loading) → JudgeSays book room said → Few said
+pub few-said : (book : List ℕ) (room : ℕ) (said : Loaded) → JudgeSays book room said → Few said
 few-said book room (Good n) h = let few = h .1 .0 .few in let counted = h .1 .1 in omega arith
-few-said book room (Refused k) h = tt
+few-said book room (Refused r) h = tt
 
 -- What stands in the table after the loop is what the answer promises.
-pub afterwards : (book : List ℕ) (table : List Entry) (said : Loading) → JudgeSays book (length table) said → Afterwards book table (filled book (recordsOf said) table) said
+pub afterwards : (book : List ℕ) (table : List Entry) (said : Loaded) → JudgeSays book (length table) said → Afterwards book table (filled book (recordsOf said) table) said
 unfolding filled
 afterwards book table (Good n) h =
     let two = entries-are n in
     subst (λ (k : ℕ). filled book k table ≡ recordsFrom book 0 (n + 2) ++ drop (n + 2) table) (sym two) (filled-is book table (n + 2) (subst (λ (k : ℕ). k ≤ length table) two (fits book (length table) (Good n) h .within)))
-afterwards book table (Refused k) h = refl
+afterwards book table (Refused r) h = refl
 
-pub loaded : (book : List ℕ) (table : List Entry) (said : Loading) (many : ℕ) → JudgeSays book (length table) said → many ≡ recordsOf said → LoadingSays book table (filled book many table) said
+pub loaded : (book : List ℕ) (table : List Entry) (said : Loaded) (many : ℕ) → JudgeSays book (length table) said → many ≡ recordsOf said → LoadingSays book table (filled book many table) said
 loaded book table said many h e = record { judged = h; table = subst (λ (k : ℕ). Afterwards book table (filled book k table) said) (sym e) (afterwards book table said h) }

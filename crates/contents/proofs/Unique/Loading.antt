@@ -6,7 +6,8 @@ use Prim.Native.Nat.{ℕ, _<_}
 use native.Mathlib.Decide.{ℕ-discrete}
 use Rattle.spec.specs.Contents.{entriesIn}
 use Rattle.spec.specs.Refusals.{Loads}
-use Rattle.spec.proofs.Bytes.FirstFaults.{loads-unrefused, first-fault-unique}
+use Rattle.spec.proofs.Bytes.FirstFaults.{loads-unrefused}
+use Rattle.spec.proofs.Bytes.RefusedOnce.{refused-once}
 use Rattle.spec.specs.EntryPart.{Lent, LiesIn, EntryPart}
 use Rattle.spec.specs.Loading.{LoadSays}
 use Rattle.spec.specs.declared.Loaded.{Loaded}
@@ -15,9 +16,9 @@ use Rattle.spec.specs.declared.Loaded.the-variants.{Good, Refused}
 -- `load`
 pub load-unique : (book : List ℕ) (r s : Loaded) → LoadSays book r → LoadSays book s → r ≡ s
 load-unique book (Good n) (Good m) p q = ap Good (p .1 ∙ sym (q .1))
-load-unique book (Good n) (Refused k) p q = absurd (loads-unrefused book k (p .0) q)
-load-unique book (Refused k) (Good n) p q = absurd (loads-unrefused book k (q .0) p)
-load-unique book (Refused k) (Refused l) p q = ap Refused (first-fault-unique book k l p q)
+load-unique book (Good n) (Refused r) p q = absurd (loads-unrefused book (p .0) (q .0) (q .1))
+load-unique book (Refused r) (Good n) p q = absurd (loads-unrefused book (q .0) (p .0) (p .1))
+load-unique book (Refused r) (Refused s) p q = ap Refused (refused-once book (p .0) (q .0))
 
 -- Two parts that lie in the book at one place and hold the same bytes.
 pub record Same (p q : Lent) : Type 0 where

@@ -17,7 +17,7 @@ returns c =
     let at = c .before .before .before in
     let book = at .before .before .args .book .now in
     record {
-      own = λ l h. absurd (loads-unrefused book (c .before .enum-told .given .0 .0) l (refused book _ (at .load .result) (c .before .enum-told .given .1) (at .load .ensures)));
+      own = λ l h. let why = refused book _ (at .load .result) (c .before .enum-told .given .1) (at .load .ensures) in absurd (loads-unrefused book l (why .0) (why .1));
       none = λ f. record { block = refl; place = omega arith; holds = refl };
     }
 

@@ -1,4 +1,4 @@
-use Rattle.rewriter.proofs.RefusedLaws.{turned-down, chosen-put, none-do}
+use Rattle.rewriter.proofs.RefusedLaws.{turned-down-by, chosen-put, none-do}
 use borrow.Author.Needs.{needs}
 use Rattle.rewriter.proofs.rewrite_rows.Statement.{statement}
 use Rattle.rewriter.proofs.rewrite_rows.Tie as tie
@@ -12,12 +12,20 @@ put-chosen-requires c κs =
 
 returns-2 : tie.Need-returns-2
 returns-2 c =
-    let if1 = c .if1 in
-    let choose-rows = c .before .choose-rows in
-    let w = c .before .before .before .before .before .before .pre in
-    turned-down (none-do w (choose-rows .ensures) (if1 .left))
+    let of-book = c .of-book in
+    let if1 = c .before .if1 in
+    let choose-rows = c .before .before .choose-rows in
+    let w = c .before .before .before .before .before .before .before .pre in
+    turned-down-by (of-book .ensures) (none-do w (choose-rows .ensures) (if1 .left))
 
 pub rewrite-rows-spec : {M : Type 1} → statement M
 rewrite-rows-spec =
     tie.close
-    (tie.spec (λ c κs. search needs) put-chosen-requires (λ c. search needs) (λ c. search needs) (λ c. search needs) returns-2)
+    (tie.spec
+    (λ c κs. search needs)
+    put-chosen-requires
+    (λ c. search needs)
+    (λ c. search needs)
+    (λ c. search needs)
+    (λ c κs. search needs)
+    returns-2)

@@ -1,5 +1,5 @@
 use native.Mathlib.Omega.{arith}
-use Rattle.rewriter.proofs.RefusedLaws.{turned-down, sought, rows-listed, rows-over}
+use Rattle.rewriter.proofs.RefusedLaws.{turned-down-by, sought, rows-listed, rows-over}
 use borrow.Author.Needs.{needs}
 use Rattle.rewriter.proofs.rewrite_sound.Statement.{statement}
 use Rattle.rewriter.proofs.rewrite_sound.Tie as tie
@@ -18,10 +18,11 @@ rewrite-rows-requires c κs =
 
 returns : tie.Need-returns
 returns c =
-    let enum-told = c .enum-told in
-    let list-rows = c .before .before .before .list-rows in
-    let w = c .before .before .before .before .before .before .before .before .pre in
-    turned-down (rows-over w (list-rows .ensures) (enum-told .given .1))
+    let of-book = c .of-book in
+    let enum-told = c .before .enum-told in
+    let list-rows = c .before .before .before .before .list-rows in
+    let w = c .before .before .before .before .before .before .before .before .before .pre in
+    turned-down-by (of-book .ensures) (rows-over w (list-rows .ensures) (enum-told .given .1))
 
 pub rewrite-sound-spec : {M : Type 1} → statement M
 rewrite-sound-spec =
@@ -30,6 +31,7 @@ rewrite-sound-spec =
     (λ c. search needs)
     list-rows-requires
     (λ c. search needs)
+    (λ c κs. search needs)
     (λ c. search needs)
     (λ c. search needs)
     rewrite-rows-requires

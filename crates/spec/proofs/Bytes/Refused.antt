@@ -11,7 +11,8 @@ use Rattle.spec.specs.Book.{Book}
 use Rattle.spec.specs.Numbers.{Bytes}
 use Rattle.spec.specs.BookLayout.{entries, mostSummaries, SoundBook}
 use Rattle.spec.specs.Contents.{count, entriesIn, offsetAt, lengthAt, partAt, NoGaps, RightRelations}
-use Rattle.spec.specs.Refusals.{longest, mostAt, Fault2, Fault3, Loads, Reads, SoundEntry, Reached, Refusal, two, three, four, five, six, seven, eight, Passes}
+use Rattle.spec.specs.declared.Reason.{Reason}
+use Rattle.spec.specs.Refusals.{longest, mostAt, ofBook, ofEntry, Fault2, Fault3, Loads, Reads, SoundEntry, Reached, Refusal, two, three, four, five, six, seven, eight, Passes}
 use Rattle.spec.proofs.Bytes.NumberLaws.{bytes-take, bytes-drop}
 use Rattle.spec.proofs.Bytes.RuleLaws.{layout-decided}
 use Rattle.spec.proofs.Bytes.BookPasses.{book-passes}
@@ -22,7 +23,7 @@ use Rattle.spec.proofs.Bytes.RefusedOnce.{passes-unrefused}
 use Rattle.spec.proofs.Bytes.ContentsDecided.{no-gaps-decided, relations-decided}
 
 abbrev pub Refused : List ℕ → Type 0
-Refused book = (n : ℕ) × (p : ℕ) × Refusal book n p
+Refused book = (r : Reason) × Refusal book r
 
 pub part-bytes : (book : List ℕ) → Bytes book → (i : ℕ) → Bytes (partAt book i)
 unfolding partAt
@@ -37,21 +38,21 @@ module _ (book : List ℕ) (bytes : Bytes book) where
         go : Dec (1 < i) → Dec (DistinctVariables (r .head)) → SoundEntry book i ⊎ Refused book
         go summary (yes d) = inl record { rule = r; reads = reads; safe = safe; plain = λ h. d }
         go (no question) (no f) = inl record { rule = r; reads = reads; safe = safe; plain = λ h. absurd (question h) }
-        go (yes summary) (no f) = inr (8, i, eight reached (λ r′ reads′. rw (reads-unique book i r′ r reads′ reads) safe) (summary, (r, reads, f)))
+        go (yes summary) (no f) = inr (ofEntry 8 i, eight reached (λ r′ reads′. rw (reads-unique book i r′ r reads′ reads) safe) (summary, (r, reads, f)))
 
     safe-or-refused : (r : Rule ℕ) → Reads book i r → SoundEntry book i ⊎ Refused book
     safe-or-refused r reads = go (safe-decided r)
       where
         go : Dec (Safe r) → SoundEntry book i ⊎ Refused book
         go (yes safe) = plain-or-refused r reads safe
-        go (no f) = inr (7, i, seven reached (r, reads, f))
+        go (no f) = inr (ofEntry 7 i, seven reached (r, reads, f))
 
     entry-or-refused : SoundEntry book i ⊎ Refused book
     entry-or-refused = go (layout-decided (partAt book 0) (mostAt i) (partAt book i) (part-bytes book bytes i))
       where
         go : ((r : Rule ℕ) × Reads book i r) ⊎ ((r : Rule ℕ) → Reads book i r → ⊥) → SoundEntry book i ⊎ Refused book
         go (inl s) = safe-or-refused (s .0) (s .1)
-        go (inr f) = inr (6, i, six reached f)
+        go (inr f) = inr (ofEntry 6 i, six reached f)
 
   -- The first entry that is not sound, if there is one; `left` entries from i on are still to be looked at.
   entries-or-refused : Loads book → (left i : ℕ) → i + left ≡ entriesIn book → 1 ≤ i → ((j : ℕ) → 1 ≤ j → j < i → SoundEntry book j) → Passes book ⊎ Refused book
@@ -80,10 +81,10 @@ module _ (book : List ℕ) (bytes : Bytes book) where
   loads-or-refused = go size-decided (decLt mostSummaries (count book)) (no-gaps-decided book) (relations-decided book)
     where
       go : Dec (Fault2 book) → Dec (Fault3 book) → Dec (NoGaps book) → Dec (RightRelations book) → Loads book ⊎ Refused book
-      go (yes f) m g r = inr (2, 0, two f)
-      go (no a) (yes f) g r = inr (3, 0, three a f)
-      go (no a) (no b) (no f) r = inr (4, 0, four a b f)
-      go (no a) (no b) (yes g) (no f) = inr (5, 0, five a b g f)
+      go (yes f) m g r = inr (ofBook 2, two f)
+      go (no a) (yes f) g r = inr (ofBook 3, three a f)
+      go (no a) (no b) (no f) r = inr (ofBook 4, four a b f)
+      go (no a) (no b) (yes g) (no f) = inr (ofBook 5, five a b g f)
       go (no a) (no b) (yes g) (yes r) = inl record { size = a; few = omega arith; noGaps = g; relations = r }
 
   pub passes-or-refused : Passes book ⊎ Refused book
@@ -101,5 +102,5 @@ module _ (book : List ℕ) (bytes : Bytes book) where
       go (inl p) = inl (book-of book bytes p)
       go (inr x) = inr x
 
-pub sound-unrefused : {book : List ℕ} {b : Book} {n p : ℕ} → SoundBook book b → Refusal book n p → ⊥
+pub sound-unrefused : {book : List ℕ} {b : Book} {r : Reason} → SoundBook book b → Refusal book r → ⊥
 sound-unrefused {book} s = passes-unrefused book (book-passes s)

@@ -5,7 +5,8 @@ use mathlib.Core.List.{List}
 use Prim.Native.Nat.{ℕ, _<_}
 use native.Mathlib.Omega.{arith}
 use native.Mathlib.Decide.{decLt}
-use Rattle.spec.specs.Refusals.{Fault2, Fault3, Fault4, Fault5, Fault6, Fault7, Fault8, SoundEntry, Reached, Refusal, two, three, four, five, six, seven, eight, Passes}
+use Rattle.spec.specs.declared.Reason.{Reason}
+use Rattle.spec.specs.Refusals.{ofBook, ofEntry, Fault2, Fault3, Fault4, Fault5, Fault6, Fault7, Fault8, SoundEntry, Reached, Refusal, two, three, four, five, six, seven, eight, Passes}
 use Rattle.spec.proofs.Bytes.BookUnique.{reads-unique}
 
 -- This answer if A holds, and else what X says.
@@ -27,21 +28,21 @@ module _ (book : List ℕ) where
   abbrev Numbered : ℕ → ℕ → Type 0
   Numbered i = Else (Fault6 book i) 6 (Else (Fault7 book i) 7 (Late i))
 
-  abbrev AtEntry : ℕ × ℕ → Type 0
-  AtEntry r = Reached book (r .1) × Numbered (r .1) (r .0)
+  abbrev AtEntry : Reason → Type 0
+  AtEntry r = Reached book (r .place) × Numbered (r .place) (r .number)
 
   -- "Order: 1 to 5, then entry by entry"
-  abbrev From5 : ℕ × ℕ → Type 0
-  From5 = Else (Fault5 book) (5, 0) AtEntry
+  abbrev From5 : Reason → Type 0
+  From5 = Else (Fault5 book) (ofBook 5) AtEntry
 
-  abbrev From4 : ℕ × ℕ → Type 0
-  From4 = Else (Fault4 book) (4, 0) From5
+  abbrev From4 : Reason → Type 0
+  From4 = Else (Fault4 book) (ofBook 4) From5
 
-  abbrev From3 : ℕ × ℕ → Type 0
-  From3 = Else (Fault3 book) (3, 0) From4
+  abbrev From3 : Reason → Type 0
+  From3 = Else (Fault3 book) (ofBook 3) From4
 
-  abbrev Ordered : ℕ × ℕ → Type 0
-  Ordered = Else (Fault2 book) (2, 0) From3
+  abbrev Ordered : Reason → Type 0
+  Ordered = Else (Fault2 book) (ofBook 2) From3
 
   number-one : (i n m : ℕ) → Numbered i n → Numbered i m → n ≡ m
   number-one i = else-one (Fault6 book i) 6 (Else (Fault7 book i) 7 (Late i)) (else-one (Fault7 book i) 7 (Late i) (λ n m x y. x .1 ∙ sym (y .1)))
@@ -61,27 +62,27 @@ module _ (book : List ℕ) where
     not-numbered n (inr (_, inl x)) = not-7 (x .0)
     not-numbered n (inr (_, inr (_, x))) = not-8 (x .0)
 
-  entry-one : (r s : ℕ × ℕ) → AtEntry r → AtEntry s → r ≡ s
-  entry-one r s x y = compare (decLt (r .1) (s .1)) (decLt (s .1) (r .1))
+  entry-one : (r s : Reason) → AtEntry r → AtEntry s → r ≡ s
+  entry-one r s x y = compare (decLt (r .place) (s .place)) (decLt (s .place) (r .place))
     where
-      compare : Dec (r .1 < s .1) → Dec (s .1 < r .1) → r ≡ s
-      compare (yes l) o = absurd (not-numbered (r .1) (y .0 .before (r .1) (x .0 .rule) l) (r .0) (x .1))
-      compare (no f) (yes l) = absurd (not-numbered (s .1) (x .0 .before (s .1) (y .0 .rule) l) (s .0) (y .1))
+      compare : Dec (r .place < s .place) → Dec (s .place < r .place) → r ≡ s
+      compare (yes l) o = absurd (not-numbered (r .place) (y .0 .before (r .place) (x .0 .rule) l) (r .number) (x .1))
+      compare (no f) (yes l) = absurd (not-numbered (s .place) (x .0 .before (s .place) (y .0 .rule) l) (s .number) (y .1))
       compare (no f) (no g) =
-          let place : r .1 ≡ s .1 = omega arith in
-          let number : r .0 ≡ s .0 = number-one (s .1) (r .0) (s .0) (subst (λ i. Numbered i (r .0)) place (x .1)) (y .1) in
-          λ j. (number j, place j)
+          let place : r .place ≡ s .place = omega arith in
+          let number : r .number ≡ s .number = number-one (s .place) (r .number) (s .number) (subst (λ i. Numbered i (r .number)) place (x .1)) (y .1) in
+          λ j. record { number = number j; place = place j }
 
-  ordered-one : (r s : ℕ × ℕ) → Ordered r → Ordered s → r ≡ s
+  ordered-one : (r s : Reason) → Ordered r → Ordered s → r ≡ s
   ordered-one =
-      else-one (Fault2 book) (2, 0) From3 (else-one (Fault3 book) (3, 0) From4 (else-one (Fault4 book) (4, 0) From5 (else-one (Fault5 book) (5, 0) AtEntry entry-one)))
+      else-one (Fault2 book) (ofBook 2) From3 (else-one (Fault3 book) (ofBook 3) From4 (else-one (Fault4 book) (ofBook 4) From5 (else-one (Fault5 book) (ofBook 5) AtEntry entry-one)))
 
   -- An entry is reached only past 2 to 5.
-  at-entry : (i n : ℕ) → Reached book i → Numbered i n → Ordered (n, i)
+  at-entry : (i n : ℕ) → Reached book i → Numbered i n → Ordered (ofEntry n i)
   at-entry i n r x =
       inr (r .loads .size, inr ((λ f. let few = r .loads .few in omega arith), inr ((λ f. f (r .loads .noGaps)), inr ((λ f. f (r .loads .relations)), (r, x)))))
 
-  ordered : {n p : ℕ} → Refusal book n p → Ordered (n, p)
+  ordered : {r : Reason} → Refusal book r → Ordered r
   ordered (two f) = inl (f, refl)
   ordered (three a f) = inr (a, inl (f, refl))
   ordered (four a b f) = inr (a, inr (b, inl (f, refl)))
@@ -90,12 +91,10 @@ module _ (book : List ℕ) where
   ordered (seven {i} r f) = at-entry i 7 r (inr ((λ g. g (f .0) (f .1)), inl (f, refl)))
   ordered (eight {i} r s f) = at-entry i 8 r (inr ((λ g. g (f .1 .0) (f .1 .1)), inr ((λ g. g .2 (s (g .0) (g .1))), (f, refl))))
 
-  pub refused-once : {n p n′ p′ : ℕ} → Refusal book n p → Refusal book n′ p′ → (n ≡ n′) × (p ≡ p′)
-  refused-once {n} {p} {n′} {p′} x y =
-      let e = ordered-one (n, p) (n′, p′) (ordered x) (ordered y) in
-      (ap (λ r. r .0) e, ap (λ r. r .1) e)
+  pub refused-once : {r s : Reason} → Refusal book r → Refusal book s → r ≡ s
+  refused-once {r} {s} x y = ordered-one r s (ordered x) (ordered y)
 
-  pub passes-unrefused : {n p : ℕ} → Passes book → Refusal book n p → ⊥
+  pub passes-unrefused : {r : Reason} → Passes book → Refusal book r → ⊥
   passes-unrefused q (two f) = q .loads .size f
   passes-unrefused q (three a f) = let few = q .loads .few in omega arith
   passes-unrefused q (four a b f) = f (q .loads .noGaps)

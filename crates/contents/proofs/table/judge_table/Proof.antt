@@ -1,23 +1,21 @@
+use Rattle.contents.proofs.Records.Judged.{too-small, passed-on}
 use borrow.Author.Needs.{needs}
-use mathlib.Core.Path.{sym}
-use native.Mathlib.Omega.{arith}
-use Rattle.contents.proofs.Answers.{good, refused}
-use Rattle.spec.specs.TableLoading.{one, then}
 use Rattle.contents.proofs.table.judge_table.Statement.{statement}
 use Rattle.contents.proofs.table.judge_table.Tie as tie
 
--- A shorter table.
 returns : tie.Need-returns
-returns c = one (omega arith)
+returns c =
+    let of-book = c .of-book in
+    let if1 = c .before .if1 in
+    let a = c .before .before .before .args in
+    too-small (a .book .now) (of-book .ensures) (if1 .taken)
 
--- The book loads.
 returns-2 : tie.Need-returns-2
-returns-2 c = (omega arith, good _ _ (c .before .before .before .load .result) (c .before .n .given .1) (c .before .before .before .load .ensures))
-
--- The contents turn it down.
-returns-3 : tie.Need-returns-3
-returns-3 c = then (omega arith) (refused _ _ (c .before .before .before .load .result) (c .before .k .given .1) (c .before .before .before .load .ensures))
+returns-2 c =
+    let load = c .load in
+    let if1 = c .before .if1 in
+    let a = c .before .before .before .args in
+    passed-on (a .book .now) (load .result) (if1 .left) (load .ensures)
 
 pub judge-table-spec : {M : Type 1} → statement M
-judge-table-spec =
-    tie.close (tie.spec returns (λ c κs. search needs) (λ c. search needs) (λ c. search needs) returns-2 returns-3)
+judge-table-spec = tie.close (tie.spec (λ c κs. search needs) returns (λ c κs. search needs) returns-2)

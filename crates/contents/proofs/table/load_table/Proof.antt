@@ -54,13 +54,13 @@ use denote.Exit.{yes}
 use Rattle.spec.specs.TableLoading.{JudgeSays, recordAt}
 use Rattle.contents.specs.Records.{recordsOf}
 use Rattle.spec.specs.declared.Entry.{Entry}
-use Rattle.spec.specs.declared.Loading.{Loading}
+use Rattle.spec.specs.declared.Loaded.{Loaded}
 use Rattle.contents.proofs.table.load_table.Proof.Callees.{Judge, RecordsOf, RecordAt, to-judge, to-records, to, goes-judge, goes-records, goes, judged, counted, said}
 use Rattle.contents.proofs.Records.Filling.{fitting, few-said, filled, length-filled, filled-more, loaded}
 use Rattle.spec.proofs.Entry as T
 use Rattle.spec.proofs.Entry.Laws as T′
-use Rattle.spec.proofs.Loading as E
-use Rattle.spec.proofs.Loading.Laws as E′
+use Rattle.spec.proofs.Loaded as E
+use Rattle.spec.proofs.Loaded.Laws as E′
 use Rattle.contents.proofs.table.judge_table as judge
 use Rattle.contents.proofs.table.judge_table.Symbol as judge-def
 use Rattle.contents.proofs.table.judge_table.Symbol.{name as #judge}
@@ -108,7 +108,7 @@ module _ {M : Type 1} (𝓤 : URA M) (H : Heap 𝓤) (A : Atoms 𝓤) (W : Given
   Book = ShrSlice (named 0) κ u8 .own book (v₁ ∷ [])
 
   -- From here on the answer r, whose machine value is u, and the number n of records are known.
-  module _ (r : Loading) (u : Val) (n : ℕ) (is : Is E.the-row r (u ∷ [])) (says-r : JudgeSays s (length ys) r) (n-is : n ≡ recordsOf r) (room : Room T.the-row (length ys)) where
+  module _ (r : Loaded) (u : Val) (n : ℕ) (is : Is E.the-row r (u ∷ [])) (says-r : JudgeSays s (length ys) r) (n-is : n ≡ recordsOf r) (room : Room T.the-row (length ys)) where
     abbrev zs : List Entry
     zs = filled s n ys
 
@@ -253,7 +253,7 @@ module _ {M : Type 1} (𝓤 : URA M) (H : Heap 𝓤) (A : Atoms 𝓤) (W : Given
       move ! (25 ∷ []) $ split ! $ move ! (1 ∷ []) $ split ! $ move ! (2 ∷ 3 ∷ []) $ use2 W (raw (Judge 𝓤 H A at-mem run .pre (to-judge 𝓤 H A W at-mem run κ q book (length ys)))) (goes-judge 𝓤 H A W at-mem run κ q book (length ys) (room .0)) $
       -- [the call's pre; the table's token; true; Book; the table; _10; …; _0; …]
       calls-at ! (fmOf 𝓤 H (W .laws) 𝓣) (Judge 𝓤 H A at-mem run) known-judge (to-judge 𝓤 H A W at-mem run κ q book (length ys)) (and-then ! (load ! (from ! (stop !)) (look ! 23 refl)) (and-then ! (load ! (from ! (stop !)) (look ! 13 refl)) (no-more !))) (λ u.
-      use1 W (later (some (λ (r : Loading). ((‵ (flft κ q) ⊛ ‵ ftrue) ⊛ ‵ (E.the-row .own r (u ∷ []))) ⊛ raw (ensured 𝓤 H A judge.ended (judge.clauses 𝓤 H A at-mem run) (κ, tt) (book, (length ys, tt)) tt r)))) (id⊢ 𝓤 _) $ await ! tt $ pick ! (λ r.
+      use1 W (later (some (λ (r : Loaded). ((‵ (flft κ q) ⊛ ‵ ftrue) ⊛ ‵ (E.the-row .own r (u ∷ []))) ⊛ raw (ensured 𝓤 H A judge.ended (judge.clauses 𝓤 H A at-mem run) (κ, tt) (book, (length ys, tt)) tt r)))) (id⊢ 𝓤 _) $ await ! tt $ pick ! (λ r.
       split ! $ move ! (1 ∷ []) $ use1 W (raw (fact 𝓤 (JudgeSays s (length ys) r))) (judged 𝓤 H A W at-mem run κ q book (length ys) r) $ heard ! (JudgeSays s (length ys) r) (λ says-r. split ! $ move ! (1 ∷ []) $
       peeks ! E.the-row (Is E.the-row) (shows 𝓤 H A E.the-row) r (u ∷ []) (λ is.
       -- [what r owns; the book's token; the table's token; true; Book; the table; _10; …]

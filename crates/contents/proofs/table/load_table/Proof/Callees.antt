@@ -28,8 +28,8 @@ use denote.Triple.Walked.{says}
 use Rattle.spec.specs.TableLoading.{JudgeSays, recordAt}
 use Rattle.contents.specs.Records.{recordsOf, Few}
 use Rattle.spec.specs.declared.Entry.{Entry}
-use Rattle.spec.specs.declared.Loading.{Loading}
-use Rattle.spec.proofs.Loading as E
+use Rattle.spec.specs.declared.Loaded.{Loaded}
+use Rattle.spec.proofs.Loaded as E
 use Rattle.contents.proofs.table.judge_table as judge
 use Rattle.contents.proofs.table.records_of as records
 use Rattle.contents.proofs.table.record_at as rec-at
@@ -59,7 +59,7 @@ module _ {M : Type 1} (𝓤 : URA M) (H : Heap 𝓤) (A : Atoms 𝓤) (W : Given
   abbrev pub to-judge : ℕ → Judge 𝓤 H A at-mem run .Ghost
   to-judge room = (((κ, tt), (q, tt), tt, (book, (room, tt)), (v₁ ∷ [], (vint w64 room ∷ [], tt))), tt)
 
-  abbrev pub to-records : Loading → Val → RecordsOf 𝓤 H A at-mem run .Ghost
+  abbrev pub to-records : Loaded → Val → RecordsOf 𝓤 H A at-mem run .Ghost
   to-records r u = ((tt, tt, tt, (r, tt), (u ∷ [], tt)), tt)
 
   abbrev pub to : ℕ → RecordAt 𝓤 H A at-mem run .Ghost
@@ -71,7 +71,7 @@ module _ {M : Type 1} (𝓤 : URA M) (H : Heap 𝓤) (A : Atoms 𝓤) (W : Given
       qed W (‵ (flft κ q) ∷ ‵ Book ∷ []) ∵ nothing ! $ move ! (1 ∷ 0 ∷ []) $ join ! $ move ! (1 ∷ []) $
       nothing ! $ owned ! usize (Is usize) (uint-makes 𝓤 H A W w64) room _ (refl, fits) $ fjoin ! $ move ! (1 ∷ 0 ∷ []) $ fjoin ! $ move ! (1 ∷ 0 ∷ []) $ join ! $ frame ! $ done !
 
-  pub goes-records : (r : Loading) (u : Val) → Few r → ent 𝓤 (sem 𝓤 H A (E.the-row .own r (u ∷ []))) (RecordsOf 𝓤 H A at-mem run .pre (to-records r u))
+  pub goes-records : (r : Loaded) (u : Val) → Few r → ent 𝓤 (sem 𝓤 H A (E.the-row .own r (u ∷ []))) (RecordsOf 𝓤 H A at-mem run .pre (to-records r u))
   goes-records r u asked =
       qed W (‵ (E.the-row .own r (u ∷ [])) ∷ []) ∵ says ! asked $ nothing ! $ frame ! $ nothing ! $ move ! (1 ∷ 0 ∷ []) $ fjoin ! $ done !
 
@@ -81,10 +81,10 @@ module _ {M : Type 1} (𝓤 : URA M) (H : Heap 𝓤) (A : Atoms 𝓤) (W : Given
       nothing ! $ owned ! usize (Is usize) (uint-makes 𝓤 H A W w64) i _ (refl, fits) $ fjoin ! $ move ! (1 ∷ 0 ∷ []) $ fjoin ! $ done !
 
   -- What each callee has said afterwards.
-  pub judged : (room : ℕ) (r : Loading) → ent 𝓤 (ensured 𝓤 H A judge.ended (judge.clauses 𝓤 H A at-mem run) (κ, tt) (book, (room, tt)) tt r) (fact 𝓤 (JudgeSays s room r))
+  pub judged : (room : ℕ) (r : Loaded) → ent 𝓤 (ensured 𝓤 H A judge.ended (judge.clauses 𝓤 H A at-mem run) (κ, tt) (book, (room, tt)) tt r) (fact 𝓤 (JudgeSays s room r))
   judged room r = exE 𝓤 _ (λ ws. snd∗ 𝓤 (sem 𝓤 H A (lasts judge.ended (κ, tt) (book, (room, tt)) ws)) (fact 𝓤 (JudgeSays s room r)))
 
-  pub counted : (r : Loading) (m : ℕ) → ent 𝓤 (ensured 𝓤 H A records.ended (records.clauses 𝓤 H A at-mem run) tt (r, tt) tt m) (fact 𝓤 (m ≡ recordsOf r))
+  pub counted : (r : Loaded) (m : ℕ) → ent 𝓤 (ensured 𝓤 H A records.ended (records.clauses 𝓤 H A at-mem run) tt (r, tt) tt m) (fact 𝓤 (m ≡ recordsOf r))
   counted r m = exE 𝓤 _ (λ ws. snd∗ 𝓤 (sem 𝓤 H A (lasts records.ended tt (r, tt) ws)) (fact 𝓤 (m ≡ recordsOf r)))
 
   pub said : (i : ℕ) (e : Entry) → ent 𝓤 (ensured 𝓤 H A rec-at.ended (rec-at.clauses 𝓤 H A at-mem run) (κ, tt) (book, (i, tt)) tt e) (fact 𝓤 (e ≡ recordAt s i))
