@@ -3,29 +3,28 @@ use mathlib.Core.Path.{_≡_, refl, sym, ap, _∙_, subst}
 use mathlib.Core.List.{List, [], _∷_, _++_, Memᴰ·of-map, List·Memᴰ·head, List·Memᴰ·tail}
 use Prim.Native.Nat.{ℕ, zero, suc, _+_, _*_, _-_, _<_, _≤_}
 use native.Mathlib.Omega.{arith}
-use native.Mathlib.Decide.{decLt}
 use lib.ListN.{length, getD, take, drop, replicate, length-append, length-map, length-take}
 use lib.Seq.{sets, sets-eq, getD-take}
-use Rattle.spec.specs.Words.{_∈_, Term, con, Subgoal, Rule, becomes}
-use Rattle.spec.specs.Summaries.{Summaries, SummaryRow}
+use Rattle.spec.specs.Words.{_∈_, Term, con, Subgoal, becomes}
+use Rattle.spec.specs.Summaries.{SummaryRow}
 use Rattle.spec.proofs.Decided.Rows.{allRows, allRows-sound}
 use Rattle.spec.specs.Book.{Book, admittedOf}
 use Rattle.spec.specs.BookLayout.{SoundBook}
 use Rattle.codes.specs.Code.{termCode, wordsOf, widthsOf}
 use Rattle.choice_theory.specs.Numbered.{Rows, nothing, rowAt, rowsAt}
-use Rattle.choice_theory.specs.Lists.{getD-in, in-getD}
+use Rattle.choice_theory.specs.Lists.{getD-in}
 use Rattle.rule_codes.proofs.WordLaws.{words-length}
 use Rattle.outcomes.proofs.Bounds.{book-bounds}
-use Rattle.spec.specs.Table.{Fault1, Fault9, mostRows}
+use Rattle.spec.specs.Table.{Fault9, mostRows}
 use Rattle.outcomes.proofs.Grants.{value-safe}
 use Rattle.outcomes.proofs.Total.{fault-9}
-use Rattle.first_shortest.specs.Chosen.{numbersOf, Found}
+use Rattle.first_shortest.specs.Chosen.{numbersOf}
 use Rattle.first_shortest.specs.declared.Chosen.{Chosen}
-use Rattle.row_choice.specs.Asked.{AskedOf, Asked}
+use Rattle.row_choice.specs.Asked.{AskedOf}
 use Rattle.answer.specs.Picked.{pickedWords, pickedWidths, Pickable}
 use Rattle.answer.specs.Steps.{Puts, ChosenPut}
-use Rattle.answer.proofs.Picks.{picked-long, widths-long}
 use Rattle.answer.proofs.PickMeans.{picked-means, widths-mean}
+use Rattle.spec.proofs.Lists.Zeros.{zero-after}
 
 -- a summary row is at most as wide as a head
 pub row-narrow : {book : List ℕ} (b : Book) → SoundBook book b → (g : Subgoal (Term ℕ)) → SummaryRow (admittedOf b) (b .question) g → length (g .terms) ≤ 8
@@ -36,19 +35,11 @@ row-narrow b sound g y =
 
 -- at most 64 rows: no fault 9
 pub few-rows : {book rows : List ℕ} {n : ℕ} (b : Book) → AskedOf book rows n b → Fault9 (admittedOf b) (b .question) → ⊥
-unfolding mostRows
 few-rows b a f = let m = fault-9 (admittedOf b) (b .question) (value-safe (a .sound .value)) .0 f in let c = a .count in let s = a .few in omega arith
 
 -- what is stored at the start of an area
 pub stored-front : (front before : List ℕ) → length front ≤ length before → sets before 0 front ≡ front ++ drop (length front) before
 stored-front front before h = sets-eq front before 0 (omega arith) ∙ (let z : 0 + length front ≡ length front = omega arith in ap (λ n. front ++ drop n before) z)
-
-zero-after : (m i j : ℕ) → getD {A = ℕ} (drop m (replicate i 0)) j 0 ≡ 0
-zero-after zero zero j = refl
-zero-after zero (suc i) zero = refl
-zero-after zero (suc i) (suc j) = zero-after zero i j
-zero-after (suc m) zero j = refl
-zero-after (suc m) (suc i) j = zero-after m i j
 
 -- no number is above 8
 small-at : (front rest : List ℕ) → ((x : ℕ) → x ∈ front → x ≤ 8) → ((j : ℕ) → getD rest j 0 ≡ 0) → (r : ℕ) → getD (front ++ rest) r 0 ≤ 8

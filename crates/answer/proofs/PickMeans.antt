@@ -1,17 +1,15 @@
 -- The words picked are those of the rows picked, and the widths are theirs.
 use mathlib.Core.Path.{_≡_, refl, sym, ap, ap₂, _∙_}
-use mathlib.Core.Bool.{cond}
 use mathlib.Core.List.{List, [], _∷_, _++_, map, append-assoc, List·Memᴰ·head, List·Memᴰ·tail}
 use Prim.Native.Nat.{ℕ, zero, suc, _+_, _*_, _-_, _<_, _≤_}
 use native.Mathlib.Omega.{arith}
-use lib.Dec.{eqb}
-use lib.ListN.{length, getD, take, drop, length-append, length-map}
+use lib.ListN.{length, getD, take, drop}
 use lib.Seq.{drop-drop, drop-append-seam, take-append-le, take-length, getD-drop, drop-cons}
 use borrow.Author.Tests.{eq-eqb, ne-eqb}
-use Rattle.spec.specs.Words.{_∈_, Term, var, con, Subgoal}
-use Rattle.choice_theory.specs.Numbered.{Rows, nothing, rowAt, rowsAt}
-use Rattle.codes.specs.Code.{variableTag, constantTag, termCode, padded, subgoalWords, wordsOf, widthsOf}
-use Rattle.codes.proofs.Padded.{padded-length}
+use Rattle.spec.specs.Words.{_∈_, Term, Subgoal}
+use Rattle.choice_theory.specs.Numbered.{Rows, rowAt, rowsAt}
+use Rattle.codes.specs.Code.{termCode, padded, subgoalWords, wordsOf, widthsOf}
+use Rattle.codes.proofs.Padded.{padded-length, code-no-end}
 use Rattle.answer.specs.Picked.{widthIn, pickedWords, pickedWidths}
 
 words-nine : (g : Subgoal (Term ℕ)) → length (subgoalWords termCode g) ≡ 9
@@ -32,11 +30,6 @@ from-row (g ∷ l) rest (suc r) h =
           ∙ w .1,
     )
 
--- a term's word is not 1
-solid : (t : Term ℕ) → termCode t ≡ 1 → ⊥
-solid (var x) e = omega arith
-solid (con k) e = omega arith
-
 -- the words from `at` on are those of terms, padded with 1
 width-means : (words : List ℕ) (n at : ℕ) (ts : List (Term ℕ)) (more : List ℕ) → length ts ≤ n → drop at words ≡ padded n (map termCode ts) ++ more → widthIn words at n ≡ length ts
 unfolding widthIn
@@ -51,7 +44,7 @@ width-means words (suc n) at (t ∷ ts) more h e =
     let q : at + 1 ≡ suc at = omega arith in
     let here : getD words at 0 ≡ termCode t = ap (λ i. getD words i 0) p ∙ sym (getD-drop at words 0 0) ∙ ap (λ l. getD l 0 0) e in
     let next : drop (suc at) words ≡ padded n (map termCode ts) ++ more = ap (λ i. drop i words) (sym q) ∙ sym (drop-drop 1 at words) ∙ ap (drop 1) e in
-    rw (ne-eqb (getD words at 0) 1 (λ o. solid t (sym here ∙ o))) (ap suc (width-means words n (suc at) ts more (omega arith) next))
+    rw (ne-eqb (getD words at 0) 1 (λ o. code-no-end t (sym here ∙ o))) (ap suc (width-means words n (suc at) ts more (omega arith) next))
 
 module _ (l : Rows) (rest : List ℕ) (narrow : (g : Subgoal (Term ℕ)) → g ∈ l → length (g .terms) ≤ 8) where
   abbrev words : List ℕ

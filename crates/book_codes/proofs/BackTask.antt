@@ -19,7 +19,8 @@ use Rattle.outcomes.proofs.Bounds.{book-bounds}
 use Rattle.search_meaning.proofs.InUse.{uses-few}
 use Rattle.search_meaning.proofs.Back.{back-sized, back-is, back-first, back-some}
 use Rattle.book_codes.specs.Question.{SomeSound, QuestionTarget, QuestionBound}
-use Rattle.book_codes.proofs.Lent.{zeros-at, targets-few, target-words}
+use Rattle.book_codes.proofs.Lent.{targets-few, target-words}
+use Rattle.spec.proofs.Lists.Zeros.{zeros-at}
 use Rattle.book_codes.specs.UsesLent.{FromOf, From}
 
 pub some-sound : {book source widths lasts : List ℕ} → From book source widths lasts → SomeSound book

@@ -20,7 +20,8 @@ use Rattle.book_codes.specs.RowGiven.{RowOf, RowGiven}
 use Rattle.book_codes.specs.OneUse.{OneUse, OneWidths}
 use Rattle.book_codes.specs.RowsGiven.{RowsOf, RowsGiven}
 use Rattle.book_codes.specs.AllUses.{Counted}
-use Rattle.book_codes.proofs.Spread.{spread, wordsEach, widthsEach, widths-length, spread-more, spread-long, joined-more, uses-more}
+use Rattle.book_codes.proofs.Spread.{spread, wordsEach, widthsEach, spread-more, spread-long, joined-more, uses-more}
+use Rattle.codes.proofs.Padded.{widths-length}
 
 -- the words of the row of that number, and what is behind
 abbrev pub rowFrom : List ℕ → ℕ → List ℕ

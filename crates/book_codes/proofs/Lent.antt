@@ -1,10 +1,9 @@
 -- The question's words in areas that were empty before, as they are lent on.
-use mathlib.Core.Path.{_≡_, refl, sym, ap, _∙_}
-use mathlib.Core.List.{List, map}
-use Prim.Native.Nat.{ℕ, zero, suc, _*_, _≤_}
+use mathlib.Core.Path.{_≡_, sym, ap, _∙_}
+use mathlib.Core.List.{List}
+use Prim.Native.Nat.{ℕ, _*_, _≤_}
 use native.Mathlib.Omega.{arith}
-use lib.ListN.{length, getD, take, replicate, length-map}
-use lib.Seq.{length-take-le}
+use lib.ListN.{length, take, length-map}
 use Rattle.spec.specs.Words.{Term, Subgoal}
 use Rattle.spec.specs.Book.{Book}
 use Rattle.spec.specs.BookLayout.{SoundBook}
@@ -12,13 +11,6 @@ use Rattle.codes.specs.Code.{slotCode, termCode, wordsOf, widthsOf}
 use Rattle.rule_codes.proofs.Stores.{front-length, front-again}
 use Rattle.rule_codes.proofs.WordLaws.{words-length}
 use Rattle.book_codes.specs.Question.{QuestionSource, QuestionTarget}
-
--- the front of an empty area has zeros alone
-pub zeros-at : (n m k : ℕ) → getD {A = ℕ} (take n (replicate m 0)) k 0 ≡ 0
-zeros-at zero m k = refl
-zeros-at (suc n) zero k = refl
-zeros-at (suc n) (suc m) zero = refl
-zeros-at (suc n) (suc m) (suc k) = zeros-at n m k
 
 module _ {book : List ℕ} (b : Book) (sound : SoundBook book b) where
   abbrev body : List (Subgoal (Term ℕ))

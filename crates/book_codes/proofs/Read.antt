@@ -19,7 +19,7 @@ use Rattle.rule_codes.specs.Codes.{atFront}
 use Rattle.rule_codes.proofs.WordLaws.{words-length}
 use Rattle.book_codes.proofs.Stored.{counted-long, counted-at}
 use Rattle.book_codes.specs.Insides.{insides, starts}
-use Rattle.book_codes.proofs.Spread.{words-append}
+use Rattle.codes.proofs.Padded.{words-append}
 use Rattle.book_codes.proofs.Beginnings.{starts-long}
 
 module _ {A : Type 0} where

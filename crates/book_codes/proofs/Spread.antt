@@ -4,14 +4,15 @@ use mathlib.Core.List.{List, [], _∷_, _++_, append-assoc, append-nil}
 use Prim.Native.Nat.{ℕ, suc, _+_, _*_}
 use native.Mathlib.Nat.{mul-add}
 use native.Mathlib.Omega.{arith}
-use lib.ListN.{length, replicate, length-append, length-map}
+use lib.ListN.{length, replicate, length-append}
 use Rattle.spec.specs.Words.{Term, Subgoal}
 use Rattle.spec.specs.Summaries.{Summaries, inPlace, uses, joined}
 use Rattle.spec.proofs.Lists.Counted.{counted}
-use Rattle.codes.specs.Code.{subgoalWords, wordsOf, widthsOf}
+use Rattle.codes.specs.Code.{wordsOf, widthsOf}
 use Rattle.choice_theory.specs.Placed.{owners}
 use Rattle.search_meaning.specs.Uses.{endOf, endsOf}
 use Rattle.book_codes.specs.Insides.{insides}
+use Rattle.codes.proofs.Padded.{words-append}
 
 -- Lists are numbered from u on; `one` says what is written of a list with its number.
 abbrev pub spread : {A : Type 0} → (ℕ → List A → List ℕ) → ℕ → List (List A) → List ℕ
@@ -33,16 +34,9 @@ module _ {A : Type 0} (one : ℕ → List A → List ℕ) where
       length-append (one u m) (spread one (suc u) ls)
       ∙ ap₂ _+_ (each u m) (spread-long size each (suc u) ls) ∙ sym (mul-add size (length m) (length (joined ls))) ∙ ap (λ k. size * k) (sym (length-append m (joined ls)))
 
-pub words-append : {A : Type 0} (code : A → ℕ) (l m : List (Subgoal A)) → wordsOf code (l ++ m) ≡ wordsOf code l ++ wordsOf code m
-words-append code [] m = refl
-words-append code (g ∷ l) m = ap (λ w. subgoalWords code g ++ w) (words-append code l m) ∙ sym (append-assoc (subgoalWords code g) (wordsOf code l) (wordsOf code m))
-
 widths-append : {A : Type 0} (l m : List (Subgoal A)) → widthsOf (l ++ m) ≡ widthsOf l ++ widthsOf m
 widths-append [] m = refl
 widths-append (g ∷ l) m = ap (_∷_ (length (g .terms))) (widths-append l m)
-
-pub widths-length : {A : Type 0} (l : List (Subgoal A)) → length (widthsOf l) ≡ length l
-widths-length l = length-map l (λ g. length (g .terms))
 
 -- What is written of one list: words, widths, its number, places, and the mark of the end.
 abbrev pub wordsEach : {A : Type 0} → (A → ℕ) → ℕ → List (Subgoal A) → List ℕ

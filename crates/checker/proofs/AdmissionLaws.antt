@@ -17,7 +17,7 @@ use Rattle.book_codes.specs.Question.{SomeSound}
 use Rattle.outcomes.proofs.AsRule.{width-is}
 use Rattle.checker.specs.Tests.{Admitted, Admits, AdmitsAll}
 use Rattle.bits.proofs.Laws.{exactly-yes, exactly-no}
-use Rattle.checker.proofs.Says.{says-both}
+use Rattle.spec.proofs.Lists.Tests.{says-both}
 
 -- an admitted summary's number is one of the book's
 number-known : (b : Book) (number : ℕ) → Admitted b number → (1 ≤ number) × (number ≤ length (b .summaries))

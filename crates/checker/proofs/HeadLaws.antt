@@ -6,7 +6,7 @@ use Prim.Native.Nat.{ℕ, zero, suc, _<_, _≤_}
 use native.Mathlib.Omega.{arith}
 use lib.ListN.{length, getD}
 use lib.Seq.{ext-getD}
-use Rattle.spec.specs.Words.{Term, var, con, Rule}
+use Rattle.spec.specs.Words.{Term, Rule}
 use Rattle.spec.specs.RuleLayout.{TermWithin, TermsWithin, Layout}
 use Rattle.codes.specs.Code.{termCode, padded}
 use Rattle.search_meaning.specs.Codings.{readTerm}
@@ -15,14 +15,11 @@ use Rattle.rule_codes.proofs.WordLaws.{padded-length}
 use Rattle.rule_codes.specs.Heads.{HeadWords}
 use Rattle.checker.specs.Tests.{SameHeads}
 use Rattle.bits.proofs.Laws.{exactly-yes, exactly-no}
+use Rattle.codes.proofs.Padded.{code-no-end}
 
 -- a word says which term it is, and is not that of an end
 code-once : (t u : Term ℕ) → TermWithin t → TermWithin u → termCode t ≡ termCode u → t ≡ u
 code-once t u h k e = sym (read-term t h) ∙ ap readTerm e ∙ read-term u k
-
-code-no-end : (t : Term ℕ) → termCode t ≡ 1 → ⊥
-code-no-end (var x) e = omega arith
-code-no-end (con c) e = omega arith
 
 padded-once : (n : ℕ) (ts us : List (Term ℕ)) → length ts ≤ n → length us ≤ n → TermsWithin ts → TermsWithin us → padded n (map termCode ts) ≡ padded n (map termCode us) → ts ≡ us
 padded-once n [] [] l m h k e = refl

@@ -23,7 +23,7 @@ use Rattle.rule_codes.proofs.TermSteps.{mapped}
 use Rattle.admission.specs.Admission.{HasSummary}
 use Rattle.admission.proofs.Standing.{entry-there, standing}
 use Rattle.book_codes.specs.Question.{SomeSound}
-use Rattle.outcomes.specs.HeadLengths.{headLengths}
+use Rattle.spec.proofs.Bytes.HeadLengths.{headLengths}
 use Rattle.checker.specs.Lengths.{HeadAt, HeadsTo, HeadsAre}
 
 -- where the count stands

@@ -4,6 +4,5 @@ pub mod LayoutLaws
 pub mod LengthLaws
 pub mod Parts
 pub mod RowLaws
-pub mod Says
 pub mod Unique
 pub mod Yes

@@ -30,7 +30,7 @@ use Rattle.outcomes.proofs.AsRule.{width-is, laid-out}
 use Rattle.checker.specs.Lengths.{HeadsAre}
 use Rattle.checker.specs.Tests.{LaidOut, SameHeads, AdmitsAll}
 use Rattle.checker.specs.Proposed.{empty, noRows, Proposed, Given}
-use Rattle.checker.proofs.Says.{says-both}
+use Rattle.spec.proofs.Lists.Tests.{says-both}
 
 -- nothing is proposed, for whatever reason
 pub proposed-none : {book rewriting : List ℕ} → ((b : Book) → SoundBook book b → (rule : Rule ℕ) → RewritingRule b rule → ruleBytes rule ≡ rewriting → ⊥) → Proposed book rewriting noRows

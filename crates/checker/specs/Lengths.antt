@@ -5,7 +5,7 @@ use Prim.Native.Nat.{ℕ, _≤_}
 use lib.ListN.{getD}
 use Rattle.spec.specs.Book.{Book}
 use Rattle.spec.specs.BookLayout.{SoundBook}
-use Rattle.outcomes.specs.HeadLengths.{headLengths}
+use Rattle.spec.proofs.Bytes.HeadLengths.{headLengths}
 
 -- the length of one summary's head
 pub record HeadAt (book : List ℕ) (i n : ℕ) : Type 0 where

@@ -10,16 +10,12 @@ use Rattle.spec.specs.Summaries.{Summaries, SummaryRow}
 use Rattle.spec.specs.Order.{ListBefore, RowBefore, ShorterFirst}
 use Rattle.spec.specs.Answer.{Rewrites, Answer}
 use Rattle.spec.proofs.Lists.Strict.{numbers-compare}
-use Rattle.spec.proofs.Lists.Rising.{Rising, rising-append}
+use Rattle.spec.proofs.Lists.Rising.{Rising, rising-append, rising-right}
 use Rattle.spec.proofs.Lists.Enumerate.{Enumerates}
 use Rattle.choice_theory.specs.Numbered.{Rows, rowAt, rowsAt, Numbers, In, WorksOn}
 use Rattle.choice_theory.specs.Rewritten.{rowsAt-before, works-rewrites, rewrites-numbers}
 use Rattle.choice_theory.specs.Can.{Can}
 use Rattle.choice_theory.specs.Going.{AtLeast, GoesOn, Past, Going}
-
-rising-right : {A : Type 0} (before : A → A → Type 0) (l m : List A) → Rising before (l ++ m) → Rising before m
-rising-right before [] m r = r
-rising-right before (a ∷ l) m r = rising-right before l m (r .1)
 
 empty : (t : List ℕ) → length t ≤ 0 → t ≡ []
 empty [] h = refl

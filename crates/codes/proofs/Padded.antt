@@ -1,11 +1,11 @@
 -- Words filled up to eight; how many words there are.
-use mathlib.Core.Path.{_≡_, refl, ap, _∙_}
-use mathlib.Core.List.{List, [], _∷_, map}
-use Prim.Native.Nat.{ℕ, zero, suc, _*_, _<_, _≤_}
+use mathlib.Core.Path.{_≡_, refl, ap, _∙_, sym}
+use mathlib.Core.List.{List, [], _∷_, map, _++_, append-assoc}
+use Prim.Native.Nat.{ℕ, zero, suc, _*_, _<_, _≤_, _+_}
 use native.Mathlib.Omega.{arith}
-use lib.ListN.{length, getD, take, length-append, List·getD-eq-default}
-use Rattle.spec.specs.Words.{Subgoal}
-use Rattle.codes.specs.Code.{padded, subgoalWords, wordsOf}
+use lib.ListN.{length, getD, take, length-append, List·getD-eq-default, length-map}
+use Rattle.spec.specs.Words.{Subgoal, Term, var, con}
+use Rattle.codes.specs.Code.{padded, subgoalWords, wordsOf, widthsOf, termCode}
 
 pub padded-length : (n : ℕ) (l : List ℕ) → length (padded n l) ≡ n
 padded-length zero l = refl
@@ -42,3 +42,15 @@ module _ {A : Type 0} (code : A → ℕ) where
   pub words-length : (gs : List (Subgoal A)) → length (wordsOf code gs) ≡ 9 * length gs
   words-length [] = refl
   words-length (g ∷ gs) = omega (arith, length-append (subgoalWords code g) (wordsOf code gs), nine g, words-length gs)
+
+pub widths-length : {A : Type 0} (l : List (Subgoal A)) → length (widthsOf l) ≡ length l
+widths-length l = length-map l (λ g. length (g .terms))
+
+pub words-append : {A : Type 0} (code : A → ℕ) (l m : List (Subgoal A)) → wordsOf code (l ++ m) ≡ wordsOf code l ++ wordsOf code m
+words-append code [] m = refl
+words-append code (g ∷ l) m = ap (λ w. subgoalWords code g ++ w) (words-append code l m) ∙ sym (append-assoc (subgoalWords code g) (wordsOf code l) (wordsOf code m))
+
+-- no term's code is the one where a subgoal's terms have ended
+pub code-no-end : (t : Term ℕ) → termCode t ≡ 1 → ⊥
+code-no-end (var x) e = omega arith
+code-no-end (con c) e = omega arith

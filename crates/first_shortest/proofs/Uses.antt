@@ -3,8 +3,8 @@ use mathlib.Core.Path.{_≡_, refl, sym, subst}
 use mathlib.Core.Bool.{Bool, true, false}
 use mathlib.Core.Logic.{_↔_}
 use mathlib.Core.List.{List}
-use Prim.Native.Nat.{ℕ, zero, suc}
-use lib.ListN.{getD, replicate}
+use Prim.Native.Nat.{ℕ}
+use lib.ListN.{replicate}
 use Rattle.bits.proofs.Laws.{exactly-once}
 use Rattle.spec.specs.Summaries.{Summaries}
 use Rattle.choice_theory.specs.Numbered.{Rows}
@@ -16,11 +16,7 @@ use Rattle.placing.specs.declared.Places.{Places}
 use Rattle.search_meaning.specs.Coded.{Bound}
 use Rattle.search_meaning.proofs.Dominance.{use-sized, dominates-is}
 use Rattle.first_shortest.specs.Pruning.{UsesBy, Uses, TellsDominance}
-
-unbound : (n x : ℕ) → _≡_ {A = ℕ} (getD (replicate n 0) x 0) 0
-unbound zero x = refl
-unbound (suc n) zero = refl
-unbound (suc n) (suc x) = unbound n x
+use Rattle.spec.proofs.Lists.Zeros.{zero-at}
 
 module _ {s : Summaries} {rows : Rows} {d r : ℕ} {t : Task} (p : UsesBy s rows d r t) where
   sized-by : Sized t
@@ -32,7 +28,7 @@ module _ {s : Summaries} {rows : Rows} {d r : ℕ} {t : Task} (p : UsesBy s rows
       (λ m. e .0 (m .0, subst (λ z. Mapped z (replicate 64 0) (m .0)) (p .words) (m .1)), λ o. let m = e .1 o in (m .0, subst (λ z. Mapped z (replicate 64 0) (m .0)) (sym (p .words)) (m .1)))
     where
       free : (x : ℕ) → Bound (replicate 64 0) x → ⊥
-      free x h = h (unbound 64 x)
+      free x h = h (zero-at 64 x)
 
 pub uses-sized : {t : Task} → Uses t → Sized t
 uses-sized u = sized-by (u .by)

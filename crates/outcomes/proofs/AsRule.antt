@@ -15,7 +15,7 @@ use Rattle.spec.specs.BookLayout.{SoundBook, questionMost}
 use Rattle.spec.proofs.Bytes.RuleLaws.{layout-unique}
 use Rattle.spec.proofs.Bytes.BookUnique.{book-unique}
 use Rattle.spec.specs.Truth.{RewritingRule, Truth}
-use Rattle.outcomes.specs.HeadLengths.{headLengths}
+use Rattle.spec.proofs.Bytes.HeadLengths.{headLengths}
 use Rattle.outcomes.proofs.Same.{true-equivalent}
 
 -- an admitted summary's number is one of the book's, and it is as wide as the table says

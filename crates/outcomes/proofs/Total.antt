@@ -1,22 +1,18 @@
 -- Every book of bytes is given an answer or refused; 9 is decided by the list of all rows.
-use mathlib.Core.Path.{_≡_}
 use mathlib.Core.Logic.{_⊎_, inl, inr, ⊎-elim, _↔_}
 use mathlib.Core.List.{List}
-use Prim.Native.Nat.{ℕ, _<_, _≤_}
+use Prim.Native.Nat.{ℕ, _<_}
 use native.Mathlib.Omega.{arith}
 use native.Mathlib.Decide.{decLt}
 use lib.ListN.{length}
-use Rattle.spec.specs.Words.{_∈_, Term, Subgoal, Rule}
+use Rattle.spec.specs.Words.{Term, Subgoal, Rule}
 use Rattle.spec.specs.Summaries.{Summaries}
-use Rattle.spec.specs.Order.{RowBefore}
 use Rattle.spec.specs.Answer.{Rewrites}
 use Rattle.spec.specs.Book.{Book, admittedOf}
 use Rattle.spec.proofs.Decided.Sound.{AllSafe}
 use Rattle.spec.proofs.Decided.Answered.{right-exists}
-use Rattle.spec.proofs.Decided.Orders.{rowOrder}
-use Rattle.spec.proofs.Lists.Rising.{ascending-rising}
-use Rattle.spec.proofs.Lists.Sublists.{sublist, is-sublist}
-use Rattle.spec.proofs.Decided.Rows.{allRows, allRows-sound, allRows-complete, allRows-ascending, allRows-enumerate}
+use Rattle.spec.proofs.Decided.Rows.{allRows, allRows-sound, allRows-ascending}
+use Rattle.spec.proofs.Decided.RowCount.{rows-within}
 use Rattle.containment.proofs.Normal.{any-decided}
 use Rattle.spec.specs.Numbers.{Bytes}
 use Rattle.spec.specs.BookLayout.{SoundBook}
@@ -31,10 +27,7 @@ use Rattle.outcomes.proofs.Grants.{value-safe}
 -- "more than 64 summary rows": the list of all rows has more
 pub fault-9 : (s : Summaries) (q : Rule ℕ) → AllSafe s → Fault9 s q ↔ (mostRows < length (allRows s q))
 fault-9 s q safe = (
-  λ f.
-      let rises = ascending-rising (f .rows) (f .ascending) in
-      let within = sublist RowBefore (length (f .rows)) (allRows s q) (allRows-enumerate s q safe .rising) (f .rows) (is-sublist rowOrder (allRows s q) (f .rows) (allRows-enumerate s q safe .rising) rises (λ g m. allRows-complete s q safe g (f .each g m))) in
-      omega (arith, f .many, within .few),
+  λ f. omega (arith, f .many, rows-within s q safe (f .rows) (f .each) (f .ascending)),
   λ h. record { rows = allRows s q; each = allRows-sound s q; ascending = allRows-ascending s q; many = h },
 )
 

@@ -55,7 +55,6 @@ module _ {book : List ℕ} {answer witness : ℕ} (s : Sounds book answer witnes
   sought h = record { value = s .value; sound = s .sound; room = omega arith }
 
   pub over-64 : {before after : List ℕ} → TooMany (admittedOf (s .value)) (s .value .question) before after → Refused book answer witness (ofBook 9)
-  unfolding mostRows
   over-64 t = nine (s .room) (s .value) (s .sound) (fault-9 (admittedOf (s .value)) (s .value .question) (value-safe (s .sound .value)) .1 (t .many))
 
   pub rowed : {before after : List ℕ} {n : ℕ} → AllStand (admittedOf (s .value)) (s .value .question) before after n → Rowed book after n answer witness

@@ -18,9 +18,9 @@ use Rattle.task.specs.Task.{posed}
 use Rattle.search_meaning.proofs.AtWords.{relation-at}
 use Rattle.search_meaning.proofs.InUse.{use-few, use-some}
 use Rattle.rule_codes.proofs.WordLaws.{words-length}
-use Rattle.book_codes.proofs.Spread.{widths-length}
+use Rattle.codes.proofs.Padded.{widths-length}
 use Rattle.first_shortest.specs.Pruning.{UsesBy, Uses, TellsDominance}
-use Rattle.book_codes.proofs.Lent.{zeros-at}
+use Rattle.spec.proofs.Lists.Zeros.{zeros-at}
 use Rattle.row_choice.specs.Dominators.{SoundRows, Pair, SomePair, NoRelation, TellsPair}
 
 -- one subgoal more that is not of the relation

@@ -14,7 +14,7 @@ use Rattle.rule_codes.proofs.Stores.{front-length}
 use Rattle.rule_codes.proofs.WordLaws.{words-length}
 use Rattle.book_codes.specs.OneUse.{OneUse, OneWidths}
 use Rattle.book_codes.specs.RowsGiven.{RowsOf, RowsGiven}
-use Rattle.book_codes.proofs.Spread.{widths-length}
+use Rattle.codes.proofs.Padded.{widths-length}
 use Rattle.book_codes.proofs.Growing.{rowFrom, row-of}
 use Rattle.row_choice.specs.Dominators.{Against, SomeAgainst, TellsAgainst, Onto, DominatorsOf}
 

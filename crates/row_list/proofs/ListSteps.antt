@@ -22,7 +22,7 @@ use Rattle.spec.proofs.Bytes.Within.{entries-some, loads-room}
 use Rattle.codes.specs.Code.{termCode, wordsOf}
 use Rattle.codes.proofs.Padded.{words-length}
 use Rattle.outcomes.proofs.Bounds.{book-bounds}
-use Rattle.summary_rows.specs.RowsAfter.{mostRows}
+use Rattle.spec.specs.Table.{mostRows}
 use Rattle.summary_rows.specs.Tables.{TableTo}
 use Rattle.summary_rows.specs.declared.Tally.{Tally}
 use Rattle.summary_rows.proofs.TableLaws.{table-none, table-skip, table-more, table-over, over-words, table-all}

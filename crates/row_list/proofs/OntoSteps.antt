@@ -22,7 +22,7 @@ use Rattle.row_list.specs.Tasks.{TargetWords}
 use Rattle.row_list.specs.Listing.{Sought}
 use Rattle.row_list.specs.Placings.{TargetIs}
 use Rattle.row_list.specs.Turns.{OntoQuestion}
-use Rattle.row_list.proofs.RowsSteps.{zeros-take}
+use Rattle.spec.proofs.Lists.Zeros.{zeros-take}
 
 module _ {book : List ℕ} {area : ℕ} (w : Sought book area) where
   pub loads-it : Loads book

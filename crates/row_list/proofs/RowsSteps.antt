@@ -1,7 +1,7 @@
 -- The task of one summary's rows, as the words that are lent to the search.
-use mathlib.Core.Path.{_≡_, refl, sym, ap, _∙_}
-use mathlib.Core.List.{List, _∷_, map}
-use Prim.Native.Nat.{ℕ, zero, suc, _*_, _≤_}
+use mathlib.Core.Path.{_≡_, sym, ap, _∙_}
+use mathlib.Core.List.{List, map}
+use Prim.Native.Nat.{ℕ, _*_, _≤_}
 use native.Mathlib.Omega.{arith}
 use lib.ListN.{length, take, replicate, length-append, length-map}
 use lib.Seq.{length-take-le}
@@ -15,13 +15,9 @@ use Rattle.summary_rows.specs.RowTask.{alone, placed, TaskOf}
 use Rattle.summary_rows.specs.RowsAfter.{Asked, Promised}
 use Rattle.summary_rows.specs.declared.Tally.{Tally}
 use Rattle.row_list.specs.Tasks.{SummaryIs, SourceWords}
-use Rattle.row_list.proofs.SourceSteps.{widths-count}
+use Rattle.codes.proofs.Padded.{widths-length}
 use Rattle.row_list.specs.Placings.{Placing, SomePlacing, PlacedRows}
-
-pub zeros-take : (n m : ℕ) → n ≤ m → _≡_ {A = List ℕ} (take n (replicate m 0)) (replicate n 0)
-zeros-take zero m h = refl
-zeros-take (suc n) zero h = absurd (omega arith)
-zeros-take (suc n) (suc m) h = ap (λ l. 0 ∷ l) (zeros-take n m (omega arith))
+use Rattle.spec.proofs.Lists.Zeros.{zeros-take}
 
 module _ {relations bytes target own : List ℕ} {found area : ℕ} (w : SomePlacing relations bytes target own found area)
     {before source old widths : List ℕ} {n : ℕ} (s : SourceWords relations bytes before source old widths n) (wide : length before ≡ 144) (many : length old ≡ 16) where
@@ -44,7 +40,7 @@ module _ {relations bytes target own : List ℕ} {found area : ℕ} (w : SomePla
   widths-long =
       let v = w .rule in
       let i = w .is .summary in
-      ap length (s .widths v i) ∙ front-length (widthsOf (placed v)) old (omega (arith, widths-count (placed v), few-goals v i)) ∙ many
+      ap length (s .widths v i) ∙ front-length (widthsOf (placed v)) old (omega (arith, widths-length (placed v), few-goals v i)) ∙ many
 
   pub source-part : length (take (9 * n) source) ≡ 9 * n
   source-part = length-take-le (9 * n) source (omega (arith, source-long, goals-few))
@@ -78,7 +74,7 @@ module _ {relations bytes target own : List ℕ} {found area : ℕ} (w : SomePla
             front-again (wordsOf slotCode (placed v)) before _ (9 * n) (s .words v (p .summary)) (omega (arith, words-length slotCode (placed v), s .count v (p .summary)))
 
         widths-is : take n widths ≡ widthsOf (placed v)
-        widths-is = front-again (widthsOf (placed v)) old _ n (s .widths v (p .summary)) (widths-count (placed v) ∙ sym (s .count v (p .summary)))
+        widths-is = front-again (widthsOf (placed v)) old _ n (s .widths v (p .summary)) (widths-length (placed v) ∙ sym (s .count v (p .summary)))
 
         lasts-is : _≡_ {A = List ℕ} (take n (replicate 16 0)) (replicate (length (placed v)) 0)
         lasts-is = zeros-take n 16 goals-few ∙ ap (λ k. replicate k 0) (s .count v (p .summary))

@@ -5,7 +5,7 @@ use Prim.Native.Nat.{ℕ, zero, suc, _+_, _*_, _-_, _≤_}
 use native.Mathlib.Omega.{arith}
 use lib.ListN.{length, take, drop, replicate, length-append, length-map, length-replicate}
 use lib.Seq.{length-take-le}
-use Rattle.spec.specs.Words.{Term, Subgoal, Rule}
+use Rattle.spec.specs.Words.{Term, Rule}
 use Rattle.codes.specs.Code.{slotCode, wordsOf, widthsOf}
 use Rattle.rule_codes.specs.Codes.{atFront}
 use Rattle.rule_codes.specs.Laid.{LaidFor}
@@ -13,7 +13,7 @@ use Rattle.rule_codes.specs.Promises.{HeadCount, BodyWords, BodyWidths}
 use Rattle.rule_codes.proofs.Stores.{front-length, front-again}
 use Rattle.rule_codes.proofs.WordLaws.{words-length}
 use Rattle.summary_rows.specs.RowTask.{alone, placed}
-use Rattle.summary_rows.proofs.TableLaws.{words-append}
+use Rattle.codes.proofs.Padded.{words-append, widths-length}
 use Rattle.row_list.specs.Alone.{aloneWords}
 use Rattle.row_list.specs.Tasks.{SummaryIs, SomeSummary, HeadSlots, SourceWords}
 use Rattle.row_list.proofs.AloneLaws.{alone-words}
@@ -25,9 +25,6 @@ ones : (ts : List (Term ℕ)) (n : ℕ) → length ts ≤ n → replicate n 1 �
 ones [] n h = refl
 ones (t ∷ ts) zero h = absurd (omega arith)
 ones (t ∷ ts) (suc n) h = ap (λ l. 1 ∷ l) (ones ts n (omega arith))
-
-pub widths-count : {A : Type 0} (gs : List (Subgoal A)) → length (widthsOf gs) ≡ length gs
-widths-count gs = length-map gs (λ g. length (g .terms))
 
 module _ {relations bytes : List ℕ} (w : SomeSummary relations bytes) {h : ℕ} (count : HeadCount bytes h) {slots : List ℕ} (is : HeadSlots bytes slots) where
   slots-are : (v : Rule ℕ) → SummaryIs relations bytes v → take h slots ≡ map slotCode (v .head)
@@ -99,8 +96,8 @@ module _ {relations bytes : List ℕ} (w : SomeSummary relations bytes) {h : ℕ
             widths-are v s =
                 let heads = count .is relations 8 v (s .layout) in
                 let few = s .layout .within .few in
-                let long : length (widthsOf (map alone (v .head))) ≡ h = omega (arith, widths-count (map alone (v .head)), length-map (v .head) alone) in
-                let fits : h + length (widthsOf (v .body)) ≤ length widths = omega (arith, widths-count (v .body), ap length one, length-replicate {A = ℕ} 16 1, heads-few count w) in
+                let long : length (widthsOf (map alone (v .head))) ≡ h = omega (arith, widths-length (map alone (v .head)), length-map (v .head) alone) in
+                let fits : h + length (widthsOf (v .body)) ≤ length widths = omega (arith, widths-length (v .body), ap length one, length-replicate {A = ℕ} 16 1, heads-few count w) in
                 let front : widths ≡ atFront (widthsOf (map alone (v .head))) widths = one ∙ ones (v .head) 16 (omega (arith, heads-few count w)) ∙ ap (atFront (widthsOf (map alone (v .head)))) (sym one) in
                 behind (widthsOf (map alone (v .head))) (widthsOf (v .body)) widths widths tail h long fits front (wide .widths 8 v (s .layout))
                 ∙ ap (λ l. atFront l widths) (sym (map-append (λ g. length (g .terms)) (map alone (v .head)) (v .body)))

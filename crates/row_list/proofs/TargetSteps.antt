@@ -17,7 +17,7 @@ use Rattle.rule_codes.specs.Promises.{BodyWords}
 use Rattle.rule_codes.proofs.Stores.{front-length, front-again}
 use Rattle.rule_codes.proofs.WordLaws.{words-length}
 use Rattle.summary_rows.specs.RowTask.{alone}
-use Rattle.summary_rows.proofs.TableLaws.{words-append}
+use Rattle.codes.proofs.Padded.{words-append}
 use Rattle.row_list.specs.Alone.{aloneWords}
 use Rattle.row_list.specs.Tasks.{TermsOf, TargetWords}
 use Rattle.row_list.proofs.AloneLaws.{alone-words}

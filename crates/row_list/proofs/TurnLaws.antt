@@ -12,7 +12,8 @@ use Rattle.spec.specs.BookLayout.{SoundBook}
 use Rattle.spec.specs.Contents.{partAt}
 use Rattle.spec.proofs.Lists.Places.{place-in}
 use Rattle.spec.proofs.Bytes.BookPasses.{book-loads, question-reads, summary-reads}
-use Rattle.summary_rows.specs.RowsAfter.{mostRows, RowsAfter}
+use Rattle.summary_rows.specs.RowsAfter.{RowsAfter}
+use Rattle.spec.specs.Table.{mostRows}
 use Rattle.summary_rows.specs.declared.Tally.{Tally}
 use Rattle.admission.specs.Admission.{HasSummary, SaysIn}
 use Rattle.admission.proofs.Standing.{standing}

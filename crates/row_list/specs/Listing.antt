@@ -9,7 +9,7 @@ use Rattle.spec.proofs.Decided.Rows.{allRows}
 use Rattle.spec.specs.Book.{Book, admittedOf}
 use Rattle.spec.specs.BookLayout.{SoundBook}
 use Rattle.codes.specs.Code.{termCode, wordsOf}
-use Rattle.summary_rows.specs.RowsAfter.{mostRows}
+use Rattle.spec.specs.Table.{mostRows}
 use Rattle.row_list.specs.declared.Listed.{Listed}
 use Rattle.row_list.specs.declared.Listed.the-variants.{All, Over}
 

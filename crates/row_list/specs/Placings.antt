@@ -8,7 +8,8 @@ use Rattle.spec.specs.RuleLayout.{RuleWithin}
 use Rattle.spec.specs.BookLayout.{Arities, questionMost}
 use Rattle.codes.specs.Code.{termCode, wordsOf}
 use Rattle.summary_rows.specs.RowTask.{onto}
-use Rattle.summary_rows.specs.RowsAfter.{mostRows, RowsAfter}
+use Rattle.summary_rows.specs.RowsAfter.{RowsAfter}
+use Rattle.spec.specs.Table.{mostRows}
 use Rattle.summary_rows.specs.declared.Tally.{Tally}
 use Rattle.row_list.specs.Tasks.{SummaryIs, TermsOf}
 

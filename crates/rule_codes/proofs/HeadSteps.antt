@@ -3,7 +3,7 @@ use mathlib.Core.Path.{_≡_, refl, sym, ap, _∙_, subst}
 use mathlib.Core.Bool.{Bool, true, false, cond}
 use mathlib.Core.Logic.{_⊎_, inl, inr, ⊎-elim}
 use mathlib.Core.List.{List, [], _∷_, _++_, List·Memᴰ·head, List·Memᴰ·append-cases, List·Memᴰ·eq-of-singleton, List·Memᴰ·not-nil, Memᴰ·append-left, Memᴰ·append-right}
-use Prim.Native.Nat.{ℕ, zero, suc, _+_, _*_, _<_, _≤_}
+use Prim.Native.Nat.{ℕ, suc, _+_, _*_, _<_, _≤_}
 use native.Mathlib.Omega.{arith}
 use lib.Dec.{eqb}
 use lib.ListN.{length, getD, take, set, replicate, length-set}
@@ -27,6 +27,7 @@ use Rattle.rule_codes.proofs.CodeLaws.{tabled-based, based-term}
 use Rattle.rule_codes.proofs.NineSteps.{TermsStored, eight-end}
 use Rattle.rule_codes.proofs.SoFar.{take-place}
 use Rattle.rule_codes.proofs.Stores.{after-store}
+use Rattle.spec.proofs.Lists.Zeros.{zero-at}
 
 module _ {bytes : List ℕ} {n : ℕ} (count : HeadCount bytes n) where
   head-many : {arities : List ℕ} {most : ℕ} {r : Rule ℕ} → Layout arities most bytes r → Many bytes 2 n (r .head)
@@ -42,12 +43,6 @@ module _ {bytes : List ℕ} {n : ℕ} (count : HeadCount bytes n) where
         ∙ ap (padded 8) (map-same (tabled table) termCode (r .head) (λ t i. tabled-based b t (l .within .head t i) ∙ based-term t));
   }
 
--- nothing bound
-none-bound : (n x : ℕ) → _≡_ {A = ℕ} (getD (replicate n 0) x 0) 0
-none-bound zero x = refl
-none-bound (suc n) zero = refl
-none-bound (suc n) (suc x) = none-bound n x
-
 -- The bindings after i of the head's terms.
 pub record BoundSoFar (bytes : List ℕ) (i : ℕ) (bound : List ℕ) : Type 0 where
   pub long : length bound ≡ 64
@@ -55,7 +50,7 @@ pub record BoundSoFar (bytes : List ℕ) (i : ℕ) (bound : List ℕ) : Type 0 w
   pub other : (arities : List ℕ) (most : ℕ) (r : Rule ℕ) → Layout arities most bytes r → (x : ℕ) → (var x ∈ take i (r .head) → ⊥) → getD bound x 0 ≡ 0
 
 pub bound-starts : (bytes : List ℕ) → BoundSoFar bytes 0 (replicate 64 0)
-bound-starts bytes = record { long = refl; shown = λ a m r l x i. absurd (List·Memᴰ·not-nil i); other = λ a m r l x f. none-bound 64 x }
+bound-starts bytes = record { long = refl; shown = λ a m r l x i. absurd (List·Memᴰ·not-nil i); other = λ a m r l x f. zero-at 64 x }
 
 pub bound-ends : {bytes bound : List ℕ} {n i : ℕ} → HeadCount bytes n → n ≤ i → BoundSoFar bytes i bound → HeadBindings bytes bound
 bound-ends {bytes} {bound} {n} {i} count h s = record {

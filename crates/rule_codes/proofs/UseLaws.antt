@@ -2,7 +2,7 @@
 use mathlib.Core.Path.{_≡_, refl, sym, ap, ap₂, _∙_}
 use mathlib.Core.Bool.{Bool, true, false, cond}
 use mathlib.Core.Option.{some}
-use mathlib.Core.List.{List, [], _∷_, map, map-map, List·Memᴰ·head, List·Memᴰ·tail, Memᴰ·of-map}
+use mathlib.Core.List.{List, [], _∷_, map, map-map, Memᴰ·of-map}
 use Prim.Native.Nat.{ℕ, _+_, _*_}
 use native.Mathlib.Omega.{arith}
 use lib.Dec.{eqb}
@@ -17,6 +17,7 @@ use Rattle.rule_codes.specs.Promises.{BodyWords}
 use Rattle.rule_codes.specs.Uses.{UseWords}
 use Rattle.rule_codes.specs.Tables.{UseTable}
 use Rattle.rule_codes.proofs.CodeLaws.{words-same, words-each, widths-each}
+use Rattle.spec.proofs.Replaced.{replaced-all}
 
 -- what stands for a variable, coded
 replaced-coded : {A : Type 0} (code : A → ℕ) (ss : List (Term ℕ)) (ts : List A) (other : ℕ → A) (x : ℕ) → code (replaced ss ts other x) ≡ replaced ss (map code ts) (λ y. code (other y)) x
@@ -29,17 +30,6 @@ replaced-coded code (var y ∷ ss) (t ∷ ts) other x = picked (eqb y x) (replac
     picked true e = refl
     picked false e = e
 replaced-coded code (con c ∷ ss) (t ∷ ts) other x = replaced-coded code ss ts other x
-
--- it is one of the terms, or what the others become
-replaced-either : {A : Type 0} (P : A → Type 0) (ss : List (Term ℕ)) (ts : List A) (other : ℕ → A) (x : ℕ) → ((t : A) → t ∈ ts → P t) → P (other x) → P (replaced ss ts other x)
-replaced-either P [] ts other x h o = o
-replaced-either P (s ∷ ss) [] other x h o = o
-replaced-either P (var y ∷ ss) (t ∷ ts) other x h o = picked (eqb y x) (replaced-either P ss ts other x (λ a m. h a (List·Memᴰ·tail m)) o)
-  where
-    picked : (b : Bool) → P (replaced ss ts other x) → P (cond b t (replaced ss ts other x))
-    picked true p = h t (List·Memᴰ·head refl)
-    picked false p = p
-replaced-either P (con c ∷ ss) (t ∷ ts) other x h o = replaced-either P ss ts other x (λ a m. h a (List·Memᴰ·tail m)) o
 
 module _ (s : Summaries) (u : ℕ) (g : Subgoal (Term ℕ)) (v : Rule ℕ) (e : summary s (g .relation) ≡ some v) where
   -- the words of a use, over the summary's own terms
@@ -75,7 +65,7 @@ module _ (s : Summaries) (u : ℕ) (g : Subgoal (Term ℕ)) (v : Rule ℕ) (e : 
       among t m = let a = Memᴰ·of-map (becomes con kept) (g .terms) m in ap c (sym (a .2)) ∙ olds (a .0) ∙ ap d (a .2)
 
       same : (t : Term ℕ) → c (becomes con (inUse s u g) t) ≡ d (becomes con (inUse s u g) t)
-      same (var x) = replaced-either (λ t. c t ≡ d t) (definition s (g .relation) .head) (map (becomes con kept) (g .terms)) (λ y. var (fresh u y)) x among (own x)
+      same (var x) = replaced-all (λ t. c t ≡ d t) (definition s (g .relation) .head) (map (becomes con kept) (g .terms)) (λ y. var (fresh u y)) x among (own x)
       same (con n) = olds (con n)
 
 module _ {arities bytes row before after : List ℕ} {n : ℕ} where

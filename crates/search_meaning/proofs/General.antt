@@ -1,12 +1,10 @@
 -- The places that a task asks for on words are those of the mappings over terms.
 use mathlib.Core.Path.{_≡_, sym, ap, _∙_}
 use mathlib.Core.Logic.{_↔_}
-use mathlib.Core.Bool.{cond}
 use mathlib.Core.List.{List, map}
-use Prim.Native.Nat.{ℕ, _<_, _≤_}
+use Prim.Native.Nat.{ℕ, _<_}
 use native.Mathlib.Omega.{arith}
 use native.Mathlib.Decide.{decLt}
-use borrow.Author.Tests.{lt-ltb, le-ltb}
 use lib.ListN.{length, getD, length-map}
 use lib.Seq.{ext-getD}
 use Rattle.spec.specs.Words.{_∈_, Subgoal, each}
@@ -16,15 +14,7 @@ use Rattle.search_meaning.specs.Coded.{Naming, Coding, Bound, task, Read
 use Rattle.search_meaning.proofs.AtWords.{nothing, map-get, relation-at, term-at, width-at}
 use Rattle.search_meaning.proofs.AtPlaces.{Indexed, places-indexed, indexed-places}
 use Rattle.choice_theory.specs.Lists.{getD-place, getD-in}
-
--- what a source word becomes
-pub value-slot : (v : ℕ → ℕ) (x : ℕ) → x < 64 → valueOf v x ≡ v x
-unfolding valueOf
-value-slot v x h = ap (λ t. cond t (v x) x) (lt-ltb x 64 h)
-
-pub value-word : (v : ℕ → ℕ) (x : ℕ) → 64 ≤ x → valueOf v x ≡ x
-unfolding valueOf
-value-word v x h = ap (λ t. cond t (v x) x) (le-ltb x 64 h)
+use Rattle.task.proofs.Slots.{value-slot, value-word}
 
 -- values that agree on the slots give a source word the same
 value-same : (v w : ℕ → ℕ) (x : ℕ) → (x < 64 → v x ≡ w x) → valueOf v x ≡ valueOf w x

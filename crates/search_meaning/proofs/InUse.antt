@@ -1,19 +1,18 @@
 -- What stands in the uses of a list of rows: terms within bounds, own variables of that use alone, few subgoals.
 use mathlib.Core.Path.{_≡_, refl, sym, ap, subst}
-use mathlib.Core.Bool.{Bool, true, false, cond}
 use mathlib.Core.Option.{some}
 use mathlib.Core.List.{List, [], _∷_, map, Memᴰ·of-map, List·Memᴰ·head, List·Memᴰ·tail}
 use Prim.Native.Nat.{ℕ, suc, _*_, _<_, _≤_}
 use native.Mathlib.Omega.{arith}
-use lib.Dec.{eqb}
 use lib.ListN.{length, length-map, length-append}
 use Rattle.spec.specs.Words.{_∈_, Term, var, con, Subgoal, Rule, AllFit, becomes, each}
-use Rattle.spec.specs.Summaries.{Summaries, summary, orEmpty, definition, Own, old, fresh, replaced, kept, inUse, inPlace, uses, joined, rewriting}
+use Rattle.spec.specs.Summaries.{Summaries, summary, orEmpty, definition, Own, old, fresh, kept, inUse, inPlace, uses, joined, rewriting}
 use Rattle.containment.proofs.Fit.{FitEvery, fit-expansion}
 use Rattle.spec.specs.RuleLayout.{TermWithin, RuleWithin}
 use Rattle.spec.specs.BookLayout.{summaryMost}
 use Rattle.search_meaning.specs.Codings.{OwnWithin}
 use Rattle.outcomes.specs.Bounds.{Bounds, RowsWithin}
+use Rattle.spec.proofs.Replaced.{replaced-all}
 
 -- A term of the use numbered u, within bounds.
 abbrev pub OfUse : ℕ → Term (Own ℕ) → Type 0
@@ -25,17 +24,6 @@ pub of-use-within : (u : ℕ) (t : Term (Own ℕ)) → OfUse u t → OwnWithin t
 of-use-within u (var (old x)) h = h
 of-use-within u (var (fresh v x)) h = h .1
 of-use-within u (con c) h = h
-
--- what holds of all that may stand for a variable holds of what stands for it
-replaced-all : {A : Type 0} (P : A → Type 0) (ss : List (Term ℕ)) (ts : List A) (other : ℕ → A) (x : ℕ) → ((t : A) → t ∈ ts → P t) → P (other x) → P (replaced ss ts other x)
-replaced-all P [] ts other x all p = p
-replaced-all P (s ∷ ss) [] other x all p = p
-replaced-all {A} P (var y ∷ ss) (t ∷ ts) other x all p = go (eqb y x) (replaced-all P ss ts other x (λ a m. all a (List·Memᴰ·tail m)) p)
-  where
-    go : (b : Bool) → P (replaced ss ts other x) → P (cond b t (replaced ss ts other x))
-    go true r = all t (List·Memᴰ·head refl)
-    go false r = r
-replaced-all P (con c ∷ ss) (t ∷ ts) other x all p = replaced-all P ss ts other x (λ a m. all a (List·Memᴰ·tail m)) p
 
 module _ (arities : List ℕ) (s : Summaries) (q : Rule ℕ) (bounds : Bounds arities s q) where
   definition-within : (n : ℕ) (r : Rule ℕ) → summary s n ≡ some r → RuleWithin arities summaryMost (definition s n)

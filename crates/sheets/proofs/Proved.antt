@@ -17,7 +17,7 @@ use Rattle.sheets.specs.Sheets.{sheets}
 use Rattle.sheets.proofs.Tried.{tried, tried-sound}
 
 all-tried : T (every tried sheets)
-unfolding sheets bookA bookASecond path star pair apart eight nine noSummaries example41 carLocPart withoutV4 withoutV2V4 wrongA wrongB wrongC wrongD values.sheets admitted bookBytes contentsEnd entries count numberAt longest mostRows
+unfolding sheets bookA bookASecond path star pair apart eight nine noSummaries example41 carLocPart withoutV4 withoutV2V4 wrongA wrongB wrongC wrongD values.sheets admitted bookBytes contentsEnd entries count numberAt longest
 all-tried = tt
 
 pub proved : (s : Sheet) → s ∈ sheets → ComesTrue s

@@ -20,7 +20,7 @@ use Rattle.spec.specs.Given.{answerBytes, witnessBytes}
 use Rattle.outcomes.proofs.Grants.{value-safe}
 use Rattle.outcomes.proofs.Total.{fault-9}
 use Rattle.sheets.specs.Sheet.{GivenAs}
-use Rattle.sheets.proofs.SoundTest.{soundBook, book-sound}
+use Rattle.spec.proofs.Bytes.SoundTest.{soundBook, book-sound}
 
 abbrev rowCount : Book → ℕ
 rowCount b = length (allRows (admittedOf b) (b .question))

@@ -5,11 +5,14 @@ pub mod BookSizes
 pub mod BookStands
 pub mod BookUnique
 pub mod ContentsDecided
+pub mod ContentsTest
 pub mod FirstFaults
 pub mod Gapless
+pub mod HeadLengths
 pub mod Laid
 pub mod NumberAt
 pub mod NumberLaws
+pub mod RefusalTest
 pub mod Refused
 pub mod RefusedExactly
 pub mod RefusedOnce
@@ -19,6 +22,7 @@ pub mod RuleReading
 pub mod SafeDecided
 pub mod Sizes
 pub mod SizesReached
+pub mod SoundTest
 pub mod Standing
 pub mod Stands
 pub mod Starts

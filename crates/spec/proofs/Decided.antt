@@ -4,11 +4,13 @@ pub mod Decide
 pub mod Equal
 pub mod Equivalents
 pub mod Exact
+pub mod HeldTest
 pub mod Meet
 pub mod Named
 pub mod Orders
 pub mod Placings
 pub mod Rewritings
+pub mod RowCount
 pub mod Rows
 pub mod RowsYielded
 pub mod Safety
@@ -16,3 +18,4 @@ pub mod Sound
 pub mod Ways
 pub mod Witness
 pub mod WitnessExists
+pub mod WitnessTest

@@ -3,3 +3,4 @@ pub mod Decided
 pub mod Examples
 pub mod Lists
 pub mod Refresh
+pub mod Replaced

@@ -10,3 +10,4 @@ pub mod Stores
 pub mod Strict
 pub mod Sublists
 pub mod Tests
+pub mod Zeros

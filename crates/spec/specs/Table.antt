@@ -23,7 +23,7 @@ abbrev pub Fault1 : ℕ → ℕ → Type 0
 Fault1 answer witness = (answer < answerRoom) ⊎ (witness < witnessRoom)
 
 -- "more than 64 summary rows"; equal rows count once, so they are listed ascending
-unfoldable pub mostRows : ℕ
+abbrev pub mostRows : ℕ
 mostRows = 64
 
 pub record Fault9 (s : Summaries) (q : Rule ℕ) : Type 0 where

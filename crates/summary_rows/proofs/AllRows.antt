@@ -1,7 +1,7 @@
 -- Summary by summary, the rows come to be all summary rows; where a summary's rows are too many, all rows are.
-use mathlib.Core.Path.{_≡_, refl, sym, ap, _∙_}
+use mathlib.Core.Path.{_≡_, sym, ap, _∙_}
 use mathlib.Core.Logic.{inl, ⊎-elim, _↔_}
-use mathlib.Core.Option.{Option, some, none, Option·none-ne-some, Option·some-injective}
+use mathlib.Core.Option.{some, none, Option·none-ne-some, Option·some-injective}
 use mathlib.Core.List.{List, [], _++_, List·Memᴰ·append-cases, Memᴰ·append-left, Memᴰ·append-right, List·Memᴰ·not-nil}
 use Prim.Native.Nat.{ℕ, suc, _<_, _≤_}
 use native.Mathlib.Omega.{arith}
@@ -9,25 +9,17 @@ use native.Mathlib.Decide.{decLe}
 use lib.Dec.{ltb, ltb→lt, lt→ltb}
 use lib.ListN.{length}
 use Rattle.spec.specs.Words.{_∈_, Term, con, Subgoal, Rule, Listed, Yields}
-use Rattle.spec.specs.Summaries.{place, Summaries, orNone, summary, SummaryRow}
+use Rattle.spec.specs.Summaries.{Summaries, summary, SummaryRow}
 use Rattle.spec.proofs.Decided.Sound.{AllSafe}
 use Rattle.spec.specs.Order.{RowBefore}
 use Rattle.spec.proofs.Decided.Orders.{rowOrder}
 use Rattle.spec.proofs.Lists.Gathered.{passing, passing-in, passing-out}
 use Rattle.spec.proofs.Lists.Rising.{rising-append, rising-passing}
 use Rattle.spec.proofs.Lists.Enumerate.{Enumerates}
-use Rattle.spec.proofs.Lists.Counted.{place-within}
-use Rattle.spec.proofs.Decided.Rows.{allRows, allRows-enumerate}
+use Rattle.spec.proofs.Decided.Rows.{allRows, allRows-enumerate, summary-within}
 use Rattle.summary_rows.specs.RowsAfter.{RowBy}
 use Rattle.summary_rows.specs.Tables.{RowTo}
 use Rattle.summary_rows.proofs.Unique.Rows.{enumerates-once}
-
-number-within : (s : Summaries) (n : ℕ) (r : Rule ℕ) → summary s n ≡ some r → (1 ≤ n) × (n ≤ length s)
-number-within s n r e = go (place s n) refl e
-  where
-    go : (o : Option (Option (Rule ℕ))) → place s n ≡ o → orNone o ≡ some r → (1 ≤ n) × (n ≤ length s)
-    go none p f = absurd (Option·none-ne-some r f)
-    go (some o) p f = place-within s n o p
 
 module _ (s : Summaries) (q : Rule ℕ) where
   -- the rows by the rule of an admitted summary are the summary rows of its number
@@ -38,7 +30,7 @@ module _ (s : Summaries) (q : Rule ℕ) where
       yields y = let r : y .1 .rule ≡ v = Option·some-injective (y .1 .rule) v (sym (y .1 .admitted) ∙ ap (summary s) (y .0) ∙ e) in rw r at (y .1 .yields)
 
   pub rows-none : Enumerates (RowTo s q 0) RowBefore []
-  rows-none = record { sound = λ g m. absurd (List·Memᴰ·not-nil m); complete = λ g y. absurd (omega (arith, y .upTo, number-within s (g .relation) (y .row .rule) (y .row .admitted) .0)); rising = tt }
+  rows-none = record { sound = λ g m. absurd (List·Memᴰ·not-nil m); complete = λ g y. absurd (omega (arith, y .upTo, summary-within s (g .relation) (y .row .rule) (y .row .admitted) .0)); rising = tt }
 
   -- a summary that is left out has no rows
   pub rows-skip : (n : ℕ) (l : List (Subgoal (Term ℕ))) → summary s (suc n) ≡ none → Enumerates (RowTo s q n) RowBefore l → Enumerates (RowTo s q (suc n)) RowBefore l
@@ -72,7 +64,7 @@ module _ (s : Summaries) (q : Rule ℕ) where
   -- the rows of all summaries are all summary rows
   pub rows-all : AllSafe s → (l : List (Subgoal (Term ℕ))) → Enumerates (RowTo s q (length s)) RowBefore l → l ≡ allRows s q
   rows-all safe l a = enumerates-once rowOrder (SummaryRow s q) l (allRows s q)
-      record { sound = λ g m. a .sound g m .row; complete = λ g y. a .complete g record { row = y; upTo = number-within s (g .relation) (y .rule) (y .admitted) .1 }; rising = a .rising }
+      record { sound = λ g m. a .sound g m .row; complete = λ g y. a .complete g record { row = y; upTo = summary-within s (g .relation) (y .rule) (y .admitted) .1 }; rising = a .rising }
       (allRows-enumerate s q safe)
 
   -- the rows of the summaries 1 to n are the first of all summary rows

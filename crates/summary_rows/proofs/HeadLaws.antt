@@ -18,7 +18,8 @@ use Rattle.summary_rows.specs.RowTask.{headRelation, alone, placed, onto
 use Rattle.summary_rows.specs.RowPlaces.{headTerm, HeadTask}
 use Rattle.summary_rows.proofs.OneUse.{Stands, completes-stand}
 use Rattle.summary_rows.proofs.Fixing.{term-only}
-use Rattle.summary_rows.proofs.TaskLaws.{fit-other, zeros, parts, room, alike, placed-long, onto-long, small}
+use Rattle.summary_rows.proofs.TaskLaws.{fit-other, parts, room, alike, placed-long, onto-long, small}
+use Rattle.spec.proofs.Lists.Zeros.{zero-at}
 
 pub variable : (ts : List (Term ℕ)) → DistinctVariables ts → (t : Term ℕ) → t ∈ ts → (x : ℕ) × (t ≡ var x)
 variable [] d t m = absurd (List·Memᴰ·not-nil m)
@@ -124,7 +125,7 @@ module _ (v q : Rule ℕ) (ts : List (Term ℕ)) (p : Task) (h : ℕ) (w : TaskO
     room-at = omega (arith, term .1, room v q ts p h w g (Memᴰ·append-right (map alone (v .head)) (body .1)))
 
     stands : Stands t b (h + m) (getD l m 0)
-    stands = let s = completes-stand t (zeros (length (placed v))) (goals t - h) h b l c in s .1 m (omega (arith, s .0, goals-are, long, place .1))
+    stands = let s = completes-stand t (zero-at (length (placed v))) (goals t - h) h b l c in s .1 m (omega (arith, s .0, goals-are, long, place .1))
 
     within : getD l m 0 < length (onto ts q)
     within = omega (arith, stands .within, targets-are)
@@ -178,7 +179,7 @@ module _ (v q : Rule ℕ) (ts : List (Term ℕ)) (p : Task) (h : ℕ) (w : TaskO
   ready-here : HeadTask t h
   ready-here = record {
     sized = sized slotNaming termCoding (placed v) (replicate (length (placed v)) 0) (onto ts q) (replicate (length (onto ts q)) 0) (small v q ts p h w);
-    oneUse = zeros (length (placed v));
+    oneUse = zero-at (length (placed v));
     single = single;
     inside = omega (arith, goals-are, long);
     short = omega (arith, w .long, w .summary .short);

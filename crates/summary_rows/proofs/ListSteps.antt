@@ -12,7 +12,8 @@ use Rattle.placing.specs.declared.Places.{Places}
 use Rattle.summary_rows.specs.RowTask.{TaskOf}
 use Rattle.summary_rows.specs.RowPlaces.{HeadTask, RowPlaces, AtRow, StartPlaces, NextPlaces}
 use Rattle.summary_rows.specs.RowCodes.{rowWords}
-use Rattle.summary_rows.specs.RowsAfter.{mostRows, Asked, Promised}
+use Rattle.summary_rows.specs.RowsAfter.{Asked, Promised}
+use Rattle.spec.specs.Table.{mostRows}
 use Rattle.summary_rows.proofs.HeadLaws.{row-ready}
 use Rattle.summary_rows.proofs.RowWords.{row-long}
 use Rattle.summary_rows.proofs.Listing.{Listing, listing-start, listing-more, listing-end, listing-over}

@@ -16,7 +16,8 @@ use Rattle.placing.specs.declared.Places.{Places}
 use Rattle.summary_rows.specs.RowTask.{TaskOf}
 use Rattle.summary_rows.specs.RowPlaces.{StartPlaces, NextPlaces}
 use Rattle.summary_rows.specs.RowCodes.{rowWords}
-use Rattle.summary_rows.specs.RowsAfter.{RowBy, mostRows, RowsAfter}
+use Rattle.summary_rows.specs.RowsAfter.{RowBy, RowsAfter}
+use Rattle.spec.specs.Table.{mostRows}
 use Rattle.summary_rows.proofs.AtTerms.{Stand}
 use Rattle.summary_rows.proofs.RowOrder.{rowOf, start-row, start-empty, next-row, next-empty}
 use Rattle.summary_rows.proofs.RowWords.{row-words}

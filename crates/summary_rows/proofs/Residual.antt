@@ -7,12 +7,8 @@ use Rattle.spec.specs.Words.{_∈_}
 use Rattle.spec.specs.Order.{First}
 use Rattle.spec.proofs.Lists.Gathered.{first}
 use Rattle.spec.proofs.Lists.Strict.{Strict, one-way}
-use Rattle.spec.proofs.Lists.Rising.{Rising}
+use Rattle.spec.proofs.Lists.Rising.{Rising, rising-right}
 use Rattle.spec.proofs.Lists.Enumerate.{Enumerates, enumerates-first, enumerates-none}
-
-rising-rest : {A : Type 0} (Before : A → A → Type 0) (done rest : List A) → Rising Before (done ++ rest) → Rising Before rest
-rising-rest Before [] rest r = r
-rising-rest Before (a ∷ done) rest r = rising-rest Before done rest (r .1)
 
 -- what stands before something in a rising list is before it
 rising-across : {A : Type 0} (Before : A → A → Type 0) (done rest : List A) → Rising Before (done ++ rest) → (a b : A) → a ∈ done → b ∈ rest → Before a b
@@ -39,7 +35,7 @@ module _ {A : Type 0} {Ok : A → Type 0} {Before : A → A → Type 0} (o : Str
   rest-enumerates done g rest n = record { sound = λ a i. (n .sound a (Memᴰ·append-right done (List·Memᴰ·tail i)), tail .0 a i); complete = complete; rising = tail .1 }
     where
       tail : Rising Before (g ∷ rest)
-      tail = rising-rest Before done (g ∷ rest) (n .rising)
+      tail = rising-right Before done (g ∷ rest) (n .rising)
 
       complete : (a : A) → Ok a × Before g a → a ∈ rest
       complete a y = ⊎-elim (λ i. absurd (one-way o a g (rising-across Before done (g ∷ rest) (n .rising) a g i (List·Memᴰ·head refl)) (y .1))) here (List·Memᴰ·append-cases done (n .complete a (y .0)))

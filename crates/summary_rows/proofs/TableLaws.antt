@@ -2,7 +2,7 @@
 use mathlib.Core.Path.{_≡_, refl, sym, ap, ap₂, _∙_}
 use mathlib.Core.Bool.{true, false}
 use mathlib.Core.Option.{some, none}
-use mathlib.Core.List.{List, [], _∷_, _++_, append-assoc}
+use mathlib.Core.List.{List, [], _++_, append-assoc}
 use Prim.Native.Nat.{ℕ, suc, _+_, _*_, _-_, _<_, _≤_}
 use native.Mathlib.Omega.{arith}
 use lib.ListN.{length, take, drop, length-append}
@@ -14,16 +14,13 @@ use Rattle.spec.proofs.Decided.Sound.{AllSafe}
 use Rattle.spec.specs.Order.{RowBefore}
 use Rattle.spec.proofs.Lists.Enumerate.{Enumerates}
 use Rattle.spec.proofs.Decided.Rows.{allRows}
-use Rattle.codes.specs.Code.{termCode, subgoalWords, wordsOf}
-use Rattle.codes.proofs.Padded.{words-length}
-use Rattle.summary_rows.specs.RowsAfter.{mostRows, RowsAfter}
+use Rattle.codes.specs.Code.{termCode, wordsOf}
+use Rattle.codes.proofs.Padded.{words-length, words-append}
+use Rattle.summary_rows.specs.RowsAfter.{RowsAfter}
+use Rattle.spec.specs.Table.{mostRows}
 use Rattle.summary_rows.specs.Tables.{RowTo, TableTo}
 use Rattle.summary_rows.specs.declared.Tally.{Tally}
 use Rattle.summary_rows.proofs.AllRows.{rows-none, rows-skip, rows-more, rows-all, rows-front}
-
-pub words-append : {A : Type 0} (code : A → ℕ) (l m : List (Subgoal A)) → wordsOf code (l ++ m) ≡ wordsOf code l ++ wordsOf code m
-words-append code [] m = refl
-words-append code (g ∷ l) m = ap (λ r. subgoalWords code g ++ r) (words-append code l m) ∙ sym (append-assoc (subgoalWords code g) (wordsOf code l) (wordsOf code m))
 
 module _ (s : Summaries) (q : Rule ℕ) (before : List ℕ) where
   pub table-none : TableTo s q 0 before before 0

@@ -2,10 +2,9 @@
 use mathlib.Core.Path.{_≡_, refl, sym, ap, _∙_, subst}
 use mathlib.Core.Logic.{_⊎_, inl, inr, ⊎-elim, _↔_}
 use mathlib.Core.List.{List, [], _++_, map, List·Memᴰ·eq-of-singleton, List·Memᴰ·append-cases, Memᴰ·of-map}
-use Prim.Native.Nat.{ℕ, _+_, _<_, _≤_}
+use Prim.Native.Nat.{ℕ, _+_, _≤_}
 use native.Mathlib.Omega.{arith}
-use native.Mathlib.Decide.{decLt}
-use lib.ListN.{length, getD, replicate, length-append, length-map, length-replicate, getD-replicate, List·getD-eq-default}
+use lib.ListN.{length, getD, replicate, length-append, length-map, length-replicate}
 use Rattle.spec.specs.Words.{_∈_, Term, con, Subgoal, Rule, Fits}
 use Rattle.spec.specs.RuleLayout.{TermWithin}
 use Rattle.spec.specs.BookLayout.{Arities}
@@ -17,6 +16,7 @@ use Rattle.choice_theory.specs.Lists.{getD-in}
 use Rattle.search_meaning.proofs.Read.{read-term, term-solid}
 use Rattle.search_meaning.proofs.Slots.{slots-sent}
 use Rattle.summary_rows.specs.RowTask.{headRelation, alone, placed, onto, TaskOf}
+use Rattle.spec.proofs.Lists.Zeros.{zero-at}
 
 -- What a relation's arity says of a subgoal.
 module _ {A : Type 0} (arities : List ℕ) (all : Arities arities) (g : Subgoal A) (fit : Fits arities g) where
@@ -25,13 +25,6 @@ module _ {A : Type 0} (arities : List ℕ) (all : Arities arities) (g : Subgoal 
 
   pub fit-other : g .relation ≡ headRelation → ⊥
   fit-other e = omega (arith, fit .known, all .few)
-
-pub zeros : (n i : ℕ) → _≡_ {A = ℕ} (getD (replicate n 0) i 0) 0
-zeros n i = go (decLt i n)
-  where
-    go : Dec (i < n) → _≡_ {A = ℕ} (getD (replicate n 0) i 0) 0
-    go (yes h) = getD-replicate {A = ℕ} n i 0 0 h
-    go (no h) = List·getD-eq-default {A = ℕ} (replicate n 0) 0 {n = i} (omega (arith, length-replicate {A = ℕ} n 0))
 
 -- a subgoal of the list is a term alone, or one of the body
 pub parts : (ts : List (Term ℕ)) (body : List (Subgoal (Term ℕ))) (g : Subgoal (Term ℕ)) → g ∈ (map alone ts ++ body) → ((t : Term ℕ) × (t ∈ ts) × (alone t ≡ g)) ⊎ (g ∈ body)
@@ -96,6 +89,6 @@ module _ (v q : Rule ℕ) (ts : List (Term ℕ)) (p : Task) (h : ℕ) (w : TaskO
     room = room;
     marked = length-replicate {A = ℕ} (length (placed v)) 0;
     rows = length-replicate {A = ℕ} (length (onto ts q)) 0;
-    sets = λ k. omega (arith, zeros (length (onto ts q)) k);
+    sets = λ k. omega (arith, zero-at (length (onto ts q)) k);
     solid = λ t i. term-solid t;
   }

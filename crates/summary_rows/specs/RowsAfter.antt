@@ -11,16 +11,13 @@ use Rattle.codes.specs.Code.{termCode, wordsOf}
 use Rattle.task.specs.Task.{Task}
 use Rattle.summary_rows.specs.RowTask.{TaskOf}
 use Rattle.summary_rows.specs.declared.Tally.{Tally}
+use Rattle.spec.specs.Table.{mostRows}
 
 -- A row of the summary of number n, whose rule is v: "the head of an admitted summary after sending its variables to terms of the question so that
 -- each of its subgoals becomes a subgoal of the question, constants kept."
 pub record RowBy (n : ℕ) (v q : Rule ℕ) (g : Subgoal (Term ℕ)) : Type 0 where
   pub number : g .relation ≡ n
   pub yields : Yields con v (Listed (q .body)) (g .terms)
-
--- "more than 64 summary rows"
-abbrev pub mostRows : ℕ
-mostRows = 64
 
 -- After `found` rows stand those of this summary, "sorted", "equal rows once", as far as there is room for 64 in all; whether there are more; how many stand there.
 -- A row is nine words. The words before them and after them stay.

@@ -12,6 +12,7 @@ use Rattle.spec.specs.EntryPart.{Lent, LiesIn, EntryPart}
 use Rattle.spec.specs.Loading.{LoadSays}
 use Rattle.spec.specs.declared.Loaded.{Loaded}
 use Rattle.spec.specs.declared.Loaded.the-variants.{Good, Refused}
+use Rattle.spec.proofs.Lists.Finite.{positive}
 
 -- `load`
 pub load-unique : (book : List ℕ) (r s : Loaded) → LoadSays book r → LoadSays book s → r ≡ s
@@ -28,11 +29,6 @@ pub record Same (p q : Lent) : Type 0 where
 same : (book : Lent) (from : ℕ) (bytes : List ℕ) (p q : Lent) → LiesIn book from bytes p → LiesIn book from bytes q → Same p q
 same book from bytes p q a b = record { place = λ i. ((a .block ∙ sym (b .block)) i, (a .place ∙ sym (b .place)) i); bytes = a .holds ∙ sym (b .holds) }
 
--- Equality of bytes and of places can be decided, so it is enough to refute that the two differ.
-decided : {A : Type 0} → Dec A → ((A → ⊥) → ⊥) → A
-decided (yes a) f = a
-decided (no n) f = absurd (f n)
-
 -- `entry`: whether or not the book loads, the two parts cannot differ.
 module _ (book : Lent) (i : ℕ) (p q : Lent) (a : EntryPart book i p) (b : EntryPart book i q) where
   never-differ : {A : Type 0} → (Same p q → A) → (A → ⊥) → ⊥
@@ -42,6 +38,6 @@ module _ (book : Lent) (i : ℕ) (p q : Lent) (a : EntryPart book i p) (b : Entr
 
   pub entry-unique : Same p q
   entry-unique = record {
-    place = λ k. (decided (ℕ-discrete (p .ptr .0) (q .ptr .0)) (never-differ (λ s j. s .place j .0)) k, decided (ℕ-discrete (p .ptr .1) (q .ptr .1)) (never-differ (λ s j. s .place j .1)) k);
-    bytes = decided (List-discrete ℕ-discrete (p .now) (q .now)) (never-differ (λ s. s .bytes));
+    place = λ k. (positive (ℕ-discrete (p .ptr .0) (q .ptr .0)) (never-differ (λ s j. s .place j .0)) k, positive (ℕ-discrete (p .ptr .1) (q .ptr .1)) (never-differ (λ s j. s .place j .1)) k);
+    bytes = positive (List-discrete ℕ-discrete (p .now) (q .now)) (never-differ (λ s. s .bytes));
   }

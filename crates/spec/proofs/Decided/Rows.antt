@@ -19,7 +19,7 @@ use Rattle.spec.proofs.Lists.Sorted.{sorted, sorted-in, sorted-out, sor
 use Rattle.spec.proofs.Lists.Counted.{counted, counted-in, place-within}
 use Rattle.spec.proofs.Decided.RowsYielded.{yielded, yielded-sound, yielded-complete}
 
-summary-within : (s : Summaries) (n : ℕ) (r : Rule ℕ) → summary s n ≡ some r → (1 ≤ n) × (n ≤ length s)
+pub summary-within : (s : Summaries) (n : ℕ) (r : Rule ℕ) → summary s n ≡ some r → (1 ≤ n) × (n ≤ length s)
 summary-within s n r e = go (place s n) refl e
   where
     go : (o : Option (Option (Rule ℕ))) → place s n ≡ o → orNone o ≡ some r → (1 ≤ n) × (n ≤ length s)

@@ -16,7 +16,7 @@ pub contrary : {A B : Type 0} → A ⊎ B → (B → A → ⊥) → (A → ⊥) 
 contrary (inl a) h = (λ f. absurd (f a), h)
 contrary (inr b) h = (λ f. b, h)
 
-positive : {A : Type 0} → Dec A → ((A → ⊥) → ⊥) → A
+pub positive : {A : Type 0} → Dec A → ((A → ⊥) → ⊥) → A
 positive (yes a) h = a
 positive (no f) h = absurd (h f)
 

@@ -1,10 +1,10 @@
 -- Rising lists: each element before all that follow. Ascending is rising by the order of rows.
 use mathlib.Core.Path.{refl, sym, subst}
-use mathlib.Core.Logic.{⊎-elim}
+use mathlib.Core.Logic.{⊎-elim, _⊎_}
 use mathlib.Core.Bool.{Bool, true, false, cond}
 use mathlib.Core.List.{List, [], _∷_, _++_, map, List·Memᴰ·head, List·Memᴰ·tail, Memᴰ·of-map, List·Memᴰ·append-cases, List·Memᴰ·not-nil}
 use Rattle.spec.specs.Words.{_∈_, Term, Subgoal}
-use Prim.Native.Nat.{ℕ}
+use Prim.Native.Nat.{ℕ, _+_, _-_}
 use Rattle.spec.specs.Order.{RowBefore, Ascending}
 use Rattle.spec.proofs.Lists.Gathered.{gather, gather-out, passing, passing-out}
 use Rattle.spec.proofs.Decided.Orders.{rowOrder}
@@ -63,3 +63,7 @@ ascending-rising (g ∷ h ∷ l) p = go (ascending-rising (h ∷ l) (p .1))
         after : (k : Subgoal (Term ℕ)) → k ∈ (h ∷ l) → RowBefore g k
         after k (List·Memᴰ·head e) = subst (RowBefore g) (sym e) (p .0)
         after k (List·Memᴰ·tail i) = rowOrder .trans g h k (p .0) (rest .0 k i)
+
+pub rising-right : {A : Type 0} (before : A → A → Type 0) (l m : List A) → Rising before (l ++ m) → Rising before m
+rising-right before [] m r = r
+rising-right before (a ∷ l) m r = rising-right before l m (r .1)

@@ -65,3 +65,6 @@ any-sound p (a ∷ l) h = ⊎-elim (λ t. (a, List·Memᴰ·head refl, t)) (λ t
 pub any-complete : {A : Type 0} (p : A → Bool) (l : List A) (a : A) → a ∈ l → T (p a) → T (any p l)
 any-complete p (b ∷ l) a (List·Memᴰ·head e) h = or-left (p b) (any p l) (subst (λ c. T (p c)) e h)
 any-complete p (b ∷ l) a (List·Memᴰ·tail i) h = or-right (p b) (any p l) (any-complete p l a i h)
+
+pub says-both : {t : Bool} → t ≡ true → t ≡ false → ⊥
+says-both y n = fails n (passes y)

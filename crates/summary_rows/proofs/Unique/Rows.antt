@@ -10,7 +10,8 @@ use Rattle.spec.proofs.Lists.Strict.{Strict}
 use Rattle.spec.proofs.Lists.Enumerate.{Enumerates, enumerates-first}
 use Rattle.codes.specs.Code.{termCode, wordsOf}
 use Rattle.task.specs.Task.{Task}
-use Rattle.summary_rows.specs.RowsAfter.{RowBy, mostRows, RowsAfter, Asked, Promised}
+use Rattle.summary_rows.specs.RowsAfter.{RowBy, RowsAfter, Asked, Promised}
+use Rattle.spec.specs.Table.{mostRows}
 use Rattle.summary_rows.specs.declared.Tally.{Tally}
 use Rattle.summary_rows.proofs.Residual.{first-of, none-of, rest-enumerates}
 

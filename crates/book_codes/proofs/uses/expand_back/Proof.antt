@@ -7,7 +7,8 @@ use Rattle.codes.specs.Code.{ownSlot}
 use Rattle.search_meaning.specs.Uses.{endOf}
 use Rattle.search_meaning.proofs.UseOf.{end-long}
 use Rattle.rule_codes.proofs.WordLaws.{words-length}
-use Rattle.book_codes.proofs.Spread.{wordsEach, widthsEach, endEach, words-spread, widths-spread, ends-spread, widths-length}
+use Rattle.book_codes.proofs.Spread.{wordsEach, widthsEach, endEach, words-spread, widths-spread, ends-spread}
+use Rattle.codes.proofs.Padded.{widths-length}
 use Rattle.book_codes.proofs.Growing.{Reached, SoFar, row-there, rows-room, reach-starts, so-starts, use-goals, words-added, widths-added, numbers-added, reach-goes, so-goes, reach-ends, so-ends}
 use Rattle.book_codes.proofs.uses.expand_back.Statement.{statement}
 use Rattle.book_codes.proofs.uses.expand_back.Tie as tie

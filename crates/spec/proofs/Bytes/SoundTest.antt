@@ -1,16 +1,16 @@
 -- Whether bytes are a sound book of a value, as a test.
 use mathlib.Core.Bool.{Bool, true, false, not, _&&_}
-use mathlib.Core.List.{List, [], _∷_}
+use mathlib.Core.List.{List, [], _∷_, Memᴰ·cast}
 use Prim.Native.Nat.{ℕ, _≤_}
 use lib.ListN.{length, getD}
-use lib.Dec.{T, T-not, leb, leb→le, ltb, ltb→lt, eqb, eqb→eq}
+use lib.Dec.{T, T-not, not-T, leb, leb→le, le→leb, ltb, ltb→lt, eqb, eqb→eq}
 use Rattle.spec.specs.Words.{_∈_, Term, var, con, Subgoal, Rule, DistinctVariables, Fits}
 use Rattle.spec.specs.Book.{Summary, Book}
-use Rattle.spec.proofs.Lists.Tests.{and-parts, every, every-sound, any, any-complete}
+use Rattle.spec.proofs.Lists.Tests.{and-parts, and-both, every, every-sound, every-complete, any, any-sound, any-complete}
 use Rattle.spec.proofs.Decided.Equal.{eqNumber, eqTerm, eqList}
 use Rattle.spec.proofs.Decided.Safety.{safe, safe-sound}
 use Rattle.spec.specs.RuleLayout.{TermWithin, TermsWithin, RuleWithin}
 use Rattle.spec.specs.BookLayout.{mostSummaries, questionMost, summaryMost, bookBytes, Arities, SoundQuestion, SoundSummary, SoundValue, SoundBook}
 
 abbrev termWithin : Term ℕ → Bool
 termWithin (var v) = ltb v 32
@@ -23,23 +23,34 @@ term-within (con c) h = ltb→lt c 4294967296 h
 terms-within : (ts : List (Term ℕ)) → T (every termWithin ts) → TermsWithin ts
 terms-within ts h t m = term-within t (every-sound termWithin ts h t m)
 
-abbrev distinct : List (Term ℕ) → Bool
+abbrev pub distinct : List (Term ℕ) → Bool
 distinct [] = true
 distinct (var x ∷ ts) = not (any (eqTerm eqNumber .test (var x)) ts) && distinct ts
 distinct (con c ∷ ts) = false
 
-distinct-sound : (ts : List (Term ℕ)) → T (distinct ts) → DistinctVariables ts
+pub distinct-sound : (ts : List (Term ℕ)) → T (distinct ts) → DistinctVariables ts
 distinct-sound [] h = tt
 distinct-sound (var x ∷ ts) h =
     let w = and-parts (not (any (eqTerm eqNumber .test (var x)) ts)) (distinct ts) h in
     (λ m. T-not (any (eqTerm eqNumber .test (var x)) ts) (w .0) (any-complete (eqTerm eqNumber .test (var x)) ts (var x) m (eqTerm eqNumber .same (var x))), distinct-sound ts (w .1))
 distinct-sound (con c ∷ ts) h = absurd h
 
+pub distinct-complete : (ts : List (Term ℕ)) → DistinctVariables ts → T (distinct ts)
+distinct-complete [] h = tt
+distinct-complete (con c ∷ ts) h = h
+distinct-complete (var x ∷ ts) h = and-both (not (any (eqTerm eqNumber .test (var x)) ts)) (distinct ts) (not-T (any (eqTerm eqNumber .test (var x)) ts) again) (distinct-complete ts (h .1))
+  where
+    again : T (any (eqTerm eqNumber .test (var x)) ts) → ⊥
+    again a = let w = any-sound (eqTerm eqNumber .test (var x)) ts a in h .0 (Memᴰ·cast (eqTerm eqNumber .sound (var x) (w .0) (w .2)) (w .1))
+
 abbrev between : ℕ → ℕ → ℕ → Bool
 between low high n = leb low n && leb n high
 
 between-sound : (low high n : ℕ) → T (between low high n) → (low ≤ n) × (n ≤ high)
 between-sound low high n h = let w = and-parts (leb low n) (leb n high) h in (leb→le low n (w .0), leb→le n high (w .1))
+
+between-complete : (low high n : ℕ) → (low ≤ n) × (n ≤ high) → T (between low high n)
+between-complete low high n h = and-both (leb low n) (leb n high) (le→leb low n (h .0)) (le→leb n high (h .1))
 
 module _ (arities : List ℕ) where
   abbrev fits : Subgoal (Term ℕ) → Bool
@@ -94,14 +105,18 @@ module _ (arities : List ℕ) where
       let c = and-parts (safe eqNumber (s .rule)) (distinct (s .rule .head)) (a .1) in
       record { stamp = ltb→lt (s .stamp) 4294967296 (b .0); within = rule-within summaryMost (s .rule) (b .1); safe = safe-sound eqNumber (s .rule) (c .0); plain = distinct-sound (s .rule .head) (c .1) }
 
-  abbrev relations : Bool
+  abbrev pub relations : Bool
   relations = between 1 32 (length arities) && every (between 1 8) arities
 
-  relations-sound : T relations → Arities arities
+  pub relations-sound : T relations → Arities arities
   relations-sound h =
       let w = and-parts (between 1 32 (length arities)) (every (between 1 8) arities) h in
       let n = between-sound 1 32 (length arities) (w .0) in
       record { some = n .0; few = n .1; range = λ a m. between-sound 1 8 a (every-sound (between 1 8) arities (w .1) a m) }
+
+  pub relations-complete : Arities arities → T relations
+  relations-complete a =
+      and-both (between 1 32 (length arities)) (every (between 1 8) arities) (between-complete 1 32 (length arities) (a .some, a .few)) (every-complete (between 1 8) arities (λ n m. between-complete 1 8 n (a .range n m)))
 
 abbrev rules : Book → Bool
 rules b = question (b .arities) (b .question) && every (summary (b .arities)) (b .summaries)
