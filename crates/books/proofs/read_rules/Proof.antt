@@ -34,6 +34,9 @@ judge-entry-requires c κs =
     let e = all-entries (c .before .before .before .before .args .book .now) _ _ (c .before .before .before .before .pre .1) (c .before .before .entries-of .ensures) in
     (c .before .before .before .before .pre .0, omega arith)
 
+of-entry-requires : tie.Need-of-entry-requires Inv-loop μ-loop
+of-entry-requires c κs = search needs
+
 returns : tie.Need-returns Inv-loop μ-loop
 returns c =
     let d = c .before in
@@ -67,7 +70,7 @@ read-rules-spec =
     judge-entry-requires
     (λ c. search needs)
     (λ c κs. search needs)
-    (λ c κs. search needs)
+    of-entry-requires
     returns
     (λ c. search needs)
     (λ c. search needs)

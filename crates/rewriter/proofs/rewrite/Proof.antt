@@ -15,6 +15,9 @@ returns-2 c =
     let if2 = c .before .if2 in
     turned-down-by (of-book2 .ensures) (witness-short (if2 .taken))
 
+read-book-requires : tie.Need-read-book-requires
+read-book-requires c κs = search needs
+
 rewrite-sound-requires : tie.Need-rewrite-sound-requires
 rewrite-sound-requires c κs =
     let enum-told = c .before .before .enum-told in
@@ -39,7 +42,7 @@ rewrite-spec =
     returns
     (λ c κs. search needs)
     returns-2
-    (λ c κs. search needs)
+    read-book-requires
     (λ c. search needs)
     (λ c. search needs)
     rewrite-sound-requires
