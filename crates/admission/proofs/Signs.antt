@@ -22,14 +22,14 @@ leads (pos n) b e = ap not (sym e ∙ le-ltb n 0 (omega arith))
 leads (negsuc n) b e = ap not (sym e)
 
 -- What is known of a lead below 0: its negation at 64 bits is the number without its sign.
-pub record Below (z : ℤ) : Type 0 where
+pub record NegativeLead (z : ℤ) : Type 0 where
   pub wide : SFits w64 z
   pub minus : SFits w64 (pos 0 -ℤ z)
   pub plus : T (nonNeg (pos 0 -ℤ z))
   pub fits : Fits w64 (natAbs (pos 0 -ℤ z))
   pub size : natAbs (pos 0 -ℤ z) ≡ natAbs z
 
-pub below : (z : ℤ) → SFits w32 z → ltZ z (pos 0) ≡ true → Below z
+pub below : (z : ℤ) → SFits w32 z → ltZ z (pos 0) ≡ true → NegativeLead z
 below (pos n) f e = absurd (let never : _≡_ {A = ℕ} 0 1 = cc (le-ltb n 0 (omega arith)) in omega arith)
 below (negsuc n) f e =
     let h : n < 2 ^ 31 = f .sfits in

@@ -1,4 +1,4 @@
--- The rows chosen, picked out of the words of all: what is then written is the answer.
+-- The rows chosen, picked out of the codes of all: what is then written is the answer.
 use mathlib.Core.Path.{_≡_, refl, sym, ap, _∙_, subst}
 use mathlib.Core.List.{List, [], _∷_, _++_, Memᴰ·of-map, List·Memᴰ·head, List·Memᴰ·tail}
 use Prim.Native.Nat.{ℕ, zero, suc, _+_, _*_, _-_, _<_, _≤_}
@@ -10,18 +10,18 @@ use Rattle.spec.specs.Summaries.{SummaryRow}
 use Rattle.spec.proofs.Decided.Rows.{allRows, allRows-sound}
 use Rattle.spec.specs.Book.{Book, admittedOf}
 use Rattle.spec.specs.BookLayout.{SoundBook}
-use Rattle.codes.specs.Code.{termCode, wordsOf, widthsOf}
-use Rattle.choice_theory.specs.Numbered.{Rows, nothing, rowAt, rowsAt}
+use Rattle.codes.specs.Code.{termCode, codesOf, widthsOf}
+use Rattle.choice_theory.specs.Numbered.{RowList, nothing, rowAt, rowsAt}
 use Rattle.choice_theory.specs.Lists.{getD-in}
-use Rattle.rule_codes.proofs.WordLaws.{words-length}
+use Rattle.codes.proofs.Padded.{codes-length}
 use Rattle.outcomes.proofs.Bounds.{book-bounds}
 use Rattle.spec.specs.Table.{Fault9, mostRows}
 use Rattle.outcomes.proofs.Grants.{value-safe}
 use Rattle.outcomes.proofs.Total.{fault-9}
 use Rattle.first_shortest.specs.Chosen.{numbersOf}
 use Rattle.first_shortest.specs.declared.Chosen.{Chosen}
-use Rattle.row_choice.specs.Asked.{AskedOf}
-use Rattle.answer.specs.Picked.{pickedWords, pickedWidths, Pickable}
+use Rattle.row_choice.specs.Asked.{ChoiceNeedsOf}
+use Rattle.answer.specs.Picked.{pickedCodes, pickedWidths, Pickable}
 use Rattle.answer.specs.Steps.{Puts, ChosenPut}
 use Rattle.answer.proofs.PickMeans.{picked-means, widths-mean}
 use Rattle.spec.proofs.Lists.Zeros.{zero-after}
@@ -34,7 +34,7 @@ row-narrow b sound g y =
     omega arith
 
 -- at most 64 rows: no fault 9
-pub few-rows : {book rows : List ℕ} {n : ℕ} (b : Book) → AskedOf book rows n b → Fault9 (admittedOf b) (b .question) → ⊥
+pub few-rows : {book rows : List ℕ} {n : ℕ} (b : Book) → ChoiceNeedsOf book rows n b → Fault9 (admittedOf b) (b .question) → ⊥
 few-rows b a f = let m = fault-9 (admittedOf b) (b .question) (value-safe (a .sound .value)) .0 f in let c = a .count in let s = a .few in omega arith
 
 -- what is stored at the start of an area
@@ -51,16 +51,16 @@ module _ {book rows : List ℕ} {n : ℕ} {chosen : Chosen} {answer witness : �
   abbrev b : Book
   b = p .asked .value
 
-  abbrev asked : AskedOf book rows n b
+  abbrev asked : ChoiceNeedsOf book rows n b
   asked = p .asked .is
 
-  abbrev all : Rows
+  abbrev all : RowList
   all = allRows (admittedOf b) (b .question)
 
   abbrev k : ℕ
   k = chosen .k
 
-  abbrev list : Rows
+  abbrev list : RowList
   list = rowsAt all (numbersOf chosen)
 
   narrow : (g : Subgoal (Term ℕ)) → g ∈ all → length (g .terms) ≤ 8
@@ -74,17 +74,17 @@ module _ {book rows : List ℕ} {n : ℕ} {chosen : Chosen} {answer witness : �
   picks-long : k ≤ length (chosen .rows)
   picks-long = omega (arith, p .found .count, length-take k (chosen .rows))
 
-  words-stand : (j : ℕ) → j < k → 9 * getD (chosen .rows) j 0 + 9 ≤ length rows
-  words-stand j h = omega (arith, named j h, ap length (asked .words), length-append (wordsOf termCode all) (asked .rest), words-length termCode all)
+  codes-stand : (j : ℕ) → j < k → 9 * getD (chosen .rows) j 0 + 9 ≤ length rows
+  codes-stand j h = omega (arith, named j h, ap length (asked .codes), length-append (codesOf termCode all) (asked .rest), codes-length termCode all)
 
   pub pickable : {out widths : List ℕ} → 108 ≤ length out → 12 ≤ length widths → Pickable rows (chosen .rows) k out widths
-  pickable wide many = let f = p .found .few in record { few = f; stand = words-stand; room = omega arith; told = omega arith }
+  pickable wide many = let f = p .found .few in record { few = f; stand = codes-stand; room = omega arith; told = omega arith }
 
-  words-picked : pickedWords rows (chosen .rows) 0 k ≡ wordsOf termCode list
-  words-picked = ap (λ x. pickedWords x (chosen .rows) 0 k) (asked .words) ∙ picked-means all (asked .rest) narrow (chosen .rows) k picks-long named
+  codes-picked : pickedCodes rows (chosen .rows) 0 k ≡ codesOf termCode list
+  codes-picked = ap (λ x. pickedCodes x (chosen .rows) 0 k) (asked .codes) ∙ picked-means all (asked .rest) narrow (chosen .rows) k picks-long named
 
   widths-picked : pickedWidths rows (chosen .rows) 0 k ≡ widthsOf list
-  widths-picked = ap (λ x. pickedWidths x (chosen .rows) 0 k) (asked .words) ∙ widths-mean all (asked .rest) narrow (chosen .rows) k picks-long named
+  widths-picked = ap (λ x. pickedWidths x (chosen .rows) 0 k) (asked .codes) ∙ widths-mean all (asked .rest) narrow (chosen .rows) k picks-long named
 
   list-long : length list ≡ k
   list-long = length-map (numbersOf chosen) (rowAt all) ∙ p .found .count
@@ -95,14 +95,14 @@ module _ {book rows : List ℕ} {n : ℕ} {chosen : Chosen} {answer witness : �
       let u = Memᴰ·of-map (rowAt all) (numbersOf chosen) (g .1) in
       subst (λ y. y ≤ 8) (g .2) (subst (λ (h : Subgoal (Term ℕ)). length (h .terms) ≤ 8) (u .2) (narrow (rowAt all (u .0)) (getD-in nothing all (u .0) (p .found .within (u .0) (u .1)))))
 
-  module _ {words widths : List ℕ} (stored : words ≡ sets (replicate 108 0) 0 (pickedWords rows (chosen .rows) 0 k)) (told : widths ≡ sets (replicate 12 0) 0 (pickedWidths rows (chosen .rows) 0 k)) where
-    words-front : words ≡ wordsOf termCode list ++ drop (length (wordsOf termCode list)) (replicate 108 0)
-    words-front = stored ∙ ap (sets (replicate 108 0) 0) words-picked ∙ stored-front (wordsOf termCode list) (replicate 108 0) (let f = p .found .few in omega (arith, words-length termCode list, list-long))
+  module _ {codes widths : List ℕ} (stored : codes ≡ sets (replicate 108 0) 0 (pickedCodes rows (chosen .rows) 0 k)) (told : widths ≡ sets (replicate 12 0) 0 (pickedWidths rows (chosen .rows) 0 k)) where
+    codes-front : codes ≡ codesOf termCode list ++ drop (length (codesOf termCode list)) (replicate 108 0)
+    codes-front = stored ∙ ap (sets (replicate 108 0) 0) codes-picked ∙ stored-front (codesOf termCode list) (replicate 108 0) (let f = p .found .few in omega (arith, codes-length termCode list, list-long))
 
     widths-front : widths ≡ widthsOf list ++ drop (length (widthsOf list)) (replicate 12 0)
     widths-front = told ∙ ap (sets (replicate 12 0) 0) widths-picked ∙ stored-front (widthsOf list) (replicate 12 0) (let f = p .found .few in omega (arith, length-map list (λ g. length (g .terms)), list-long))
 
-    pub puts : Puts book words widths k answer witness
+    pub puts : Puts book codes widths k answer witness
     puts = record {
       value = b;
       sound = asked .sound;
@@ -112,8 +112,8 @@ module _ {book rows : List ℕ} {n : ℕ} {chosen : Chosen} {answer witness : �
       answers = p .found .answer;
       count = list-long;
       short = p .found .few;
-      rest = drop (length (wordsOf termCode list)) (replicate 108 0);
-      words-are = words-front;
+      rest = drop (length (codesOf termCode list)) (replicate 108 0);
+      codes-are = codes-front;
       more = drop (length (widthsOf list)) (replicate 12 0);
       widths-are = widths-front;
       narrow = λ r. subst (λ x. getD x r 0 ≤ 8) (sym widths-front) (small-at (widthsOf list) (drop (length (widthsOf list)) (replicate 12 0)) list-small (zero-after (length (widthsOf list)) 12) r);

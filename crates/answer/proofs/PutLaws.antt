@@ -19,8 +19,8 @@ use Rattle.spec.proofs.Bytes.BookPasses.{book-loads}
 use Rattle.spec.proofs.Bytes.BookStands.{question-part}
 use Rattle.spec.proofs.Bytes.Within.{entries-some}
 use Rattle.spec.proofs.Bytes.Sizes.{terms-size}
-use Rattle.codes.specs.Code.{termCode, subgoalWords, wordsOf, widthsOf}
-use Rattle.rule_codes.proofs.WordLaws.{words-length, padded-length}
+use Rattle.codes.specs.Code.{termCode, subgoalCodes, codesOf, widthsOf}
+use Rattle.codes.proofs.Padded.{codes-length, padded-length}
 use Rattle.answer.specs.Bytes.{rewritingBytes, Writable}
 use Rattle.spec.proofs.Lists.Stores.{sets-next}
 use Rattle.answer.proofs.Means.{RowWithin, rewriting-means}
@@ -33,7 +33,7 @@ use Rattle.book_codes.proofs.RowUse.{summary-few}
 use Rattle.book_codes.specs.RowsGiven.{RowsOf}
 use Rattle.book_codes.proofs.SummaryRows.{summary-rows}
 use Rattle.witness.specs.ThereTold.{Tells, ThereOf, ThereTold}
-use Rattle.book_codes.specs.FewRows.{FewOf}
+use Rattle.book_codes.specs.FewRows.{FewRowsOf}
 use Rattle.witness.specs.BackTold.{BackOf, BackTold}
 use Rattle.spec.specs.Rewriting.{Accepted}
 use Rattle.answer.specs.Steps.{Puts}
@@ -54,25 +54,25 @@ module _ {answer witness : ℕ} (room : Fault1 answer witness → ⊥) where
     | no h ↦ omega arith
   ]
 
-module _ {book words widths : List ℕ} {k answer witness : ℕ} (p : Puts book words widths k answer witness) where
+module _ {book codes widths : List ℕ} {k answer witness : ℕ} (p : Puts book codes widths k answer witness) where
   abbrev b : Book
   b = p .value
 
   abbrev l : List (Subgoal (Term ℕ))
   l = p .list
 
-  words-front : take (9 * k) words ≡ wordsOf termCode l
-  words-front =
-      let n : length (wordsOf termCode l) ≡ 9 * k = omega (arith, words-length termCode l, p .count) in
-      ap (take (9 * k)) (p .words-are) ∙ take-append-le (9 * k) (wordsOf termCode l) (p .rest) (omega arith) ∙ take-all (9 * k) (wordsOf termCode l) (omega arith)
+  codes-front : take (9 * k) codes ≡ codesOf termCode l
+  codes-front =
+      let n : length (codesOf termCode l) ≡ 9 * k = omega (arith, codes-length termCode l, p .count) in
+      ap (take (9 * k)) (p .codes-are) ∙ take-append-le (9 * k) (codesOf termCode l) (p .rest) (omega arith) ∙ take-all (9 * k) (codesOf termCode l) (omega arith)
 
-  rows-of : RowsOf book words k b l
-  rows-of = summary-rows b l (p .sound) (p .answers .holds .rows) (p .count) words-front
+  rows-of : RowsOf book codes k b l
+  rows-of = summary-rows b l (p .sound) (p .answers .holds .rows) (p .count) codes-front
 
-  few-of : FewOf book words k b l
+  few-of : FewRowsOf book codes k b l
   few-of = record { rows-of = rows-of; few = p .short }
 
-  pub tells : Tells book words k
+  pub tells : Tells book codes k
   tells = record { some = record { value = b; list = l; is = few-of }; serves = p .answers .holds .equivalent }
 
   pub question-there : Loads book × (1 < entriesIn book)
@@ -82,18 +82,18 @@ module _ {book words widths : List ℕ} {k answer witness : ℕ} (p : Puts book 
   row-writes : (g : Subgoal (Term ℕ)) → g ∈ l → RowWithin g
   row-writes g m = record { number = omega (arith, summary-few given); narrow = narrow; terms = rows-of .within .within g m }
     where
-      nine : take 9 (subgoalWords termCode g) ≡ subgoalWords termCode g
-      nine = take-all 9 (subgoalWords termCode g) (omega (arith, padded-length 8 (map termCode (g .terms))))
+      nine : take 9 (subgoalCodes termCode g) ≡ subgoalCodes termCode g
+      nine = take-all 9 (subgoalCodes termCode g) (omega (arith, padded-length 8 (map termCode (g .terms))))
 
-      row : RowOf book (subgoalWords termCode g) b g
+      row : RowOf book (subgoalCodes termCode g) b g
       row = record {
         sound = p .sound;
         over = let y = p .answers .holds .rows g m in record { rule = y .rule; admitted = y .admitted; long = ap length (sym (y .yields .gives)) ∙ length-map (y .rule .head) (becomes con (y .yields .value)) };
         within = rows-of .within .within g m;
-        words = nine;
+        codes = nine;
       }
 
-      given : RowGiven book (subgoalWords termCode g)
+      given : RowGiven book (subgoalCodes termCode g)
       given = record { value = b; goal = g; is = row }
 
       narrow : length (g .terms) ≤ 8
@@ -105,7 +105,7 @@ module _ {book words widths : List ℕ} {k answer witness : ℕ} (p : Puts book 
   body-is : {body : List ℕ} → body ≡ partAt book 1 → ruleBytes (b .question) ≡ body
   body-is e = sym (e ∙ question-part (p .sound))
 
-  pub writable : {body out : List ℕ} → body ≡ partAt book 1 → length out ≡ answer → Writable out body words widths k
+  pub writable : {body out : List ℕ} → body ≡ partAt book 1 → length out ≡ answer → Writable out body codes widths k
   writable {body} e same =
       let short = p .sound .value .question .within .short in
       let head : getD body 0 0 ≡ length (b .question .head) = ap (λ y. getD y 0 0) (sym (body-is e)) in
@@ -116,17 +116,17 @@ module _ {book words widths : List ℕ} {k answer witness : ℕ} (p : Puts book 
         head = omega (arith, terms-size (b .question .head), length-append (termsBytes (b .question .head)) (subgoalsBytes (b .question .body)));
         few = p .short;
         rows = record {
-          stand = omega (arith, ap length (p .words-are), length-append (wordsOf termCode l) (p .rest), words-length termCode l, p .count);
+          stand = omega (arith, ap length (p .codes-are), length-append (codesOf termCode l) (p .rest), codes-length termCode l, p .count);
           told = omega (arith, ap length (p .widths-are), length-append (widthsOf l) (p .more), length-map l (λ g. length (g .terms)), p .count);
           narrow = p .narrow;
         };
       }
 
-module _ {book words widths : List ℕ} {k : ℕ} (a w : List ℕ) (p : Puts book words widths k (length a) (length w)) where
+module _ {book codes widths : List ℕ} {k : ℕ} (a w : List ℕ) (p : Puts book codes widths k (length a) (length w)) where
   abbrev q : Rule ℕ
   q = p .value .question
 
-  module _ {w₁ w₂ : List ℕ} {m n : ℕ} (there : ThereTold book words k w w₁ m) (back : BackTold book words k m w₁ w₂ n) where
+  module _ {w₁ w₂ : List ℕ} {m n : ℕ} (there : ThereTold book codes k w w₁ m) (back : BackTold book codes k m w₁ w₂ n) where
     goes : ThereOf (p .value) (p .list) w w₁ m
     goes = there .is (p .value) (p .list) (few-of p) (p .answers .holds .equivalent)
 
@@ -145,9 +145,9 @@ module _ {book words widths : List ℕ} {k : ℕ} (a w : List ℕ) (p : Puts boo
         returns .written ∙ ap (λ x. sets x m (returns .bytes)) (goes .written) ∙ sets-next w 0 m (goes .bytes) (returns .bytes) (omega (arith, goes .long))
         ∙ stored-front (goes .bytes ++ returns .bytes) w (omega (arith, witness-fits given, witness-room (p .room)))
 
-    module _ {a₁ body : List ℕ} {o : ℕ} (part : body ≡ partAt book 1) (stored : a₁ ≡ sets a 0 (rewritingBytes body words widths k)) (long : o ≡ length (rewritingBytes body words widths k)) where
-      answer-is : rewritingBytes body words widths k ≡ answerBytes q result
-      answer-is = ap (rewritingBytes body words widths) (sym (p .count)) ∙ rewriting-means q body words widths (p .list) (p .rest) (p .more) (body-is p part) (row-writes p) (p .words-are) (p .widths-are)
+    module _ {a₁ body : List ℕ} {o : ℕ} (part : body ≡ partAt book 1) (stored : a₁ ≡ sets a 0 (rewritingBytes body codes widths k)) (long : o ≡ length (rewritingBytes body codes widths k)) where
+      answer-is : rewritingBytes body codes widths k ≡ answerBytes q result
+      answer-is = ap (rewritingBytes body codes widths) (sym (p .count)) ∙ rewriting-means q body codes widths (p .list) (p .rest) (p .more) (body-is p part) (row-writes p) (p .codes-are) (p .widths-are)
 
       answer-holds : a₁ ≡ written (answerBytes q result) a
       unfolding answerRoom
@@ -163,11 +163,11 @@ module _ {book words widths : List ℕ} {k : ℕ} (a w : List ℕ) (p : Puts boo
       }
 
 -- both parts are short
-pub lengths-fit : {book words widths : List ℕ} {k answer witness : ℕ} (p : Puts book words widths k answer witness) {w w₁ w₂ : List ℕ} {m n : ℕ} → ThereTold book words k w w₁ m → BackTold book words k m w₁ w₂ n → (m ≤ 24) × (n ≤ 96)
+pub lengths-fit : {book codes widths : List ℕ} {k answer witness : ℕ} (p : Puts book codes widths k answer witness) {w w₁ w₂ : List ℕ} {m n : ℕ} → ThereTold book codes k w w₁ m → BackTold book codes k m w₁ w₂ n → (m ≤ 24) × (n ≤ 96)
 lengths-fit p there back = (there .is (p .value) (p .list) (few-of p) (p .answers .holds .equivalent) .few, back .is (p .value) (p .list) (few-of p) (p .answers .holds .equivalent) .few)
 
 -- there is room left behind the first part
-pub there-kept : {book words widths : List ℕ} {k answer : ℕ} (w : List ℕ) (p : Puts book words widths k answer (length w)) {w₁ : List ℕ} {m : ℕ} → ThereTold book words k w w₁ m → m + 96 ≤ length w₁
+pub there-kept : {book codes widths : List ℕ} {k answer : ℕ} (w : List ℕ) (p : Puts book codes widths k answer (length w)) {w₁ : List ℕ} {m : ℕ} → ThereTold book codes k w w₁ m → m + 96 ≤ length w₁
 there-kept w p {w₁} {m} there =
     let t = there .is (p .value) (p .list) (few-of p) (p .answers .holds .equivalent) in
     let few = t .few in

@@ -1,4 +1,4 @@
--- Words as the bytes that are written for them.
+-- Codes as the bytes that are written for them.
 use mathlib.Core.Bool.{cond}
 use mathlib.Core.List.{List, [], _∷_, _++_, map}
 use Prim.Native.Nat.{ℕ, zero, suc, _+_, _*_, _%_, _≤_}
@@ -10,38 +10,38 @@ use Rattle.codes.specs.Code.{constantTag}
 
 -- "one byte 0 (variable) or 1 (constant)"
 unfoldable pub tagOf : ℕ → ℕ
-tagOf word = cond (ltb word constantTag) 0 1
+tagOf code = cond (ltb code constantTag) 0 1
 
 -- ".. then four bytes"
-abbrev pub wordBytes : ℕ → List ℕ
-wordBytes word = tagOf word ∷ little 4 (word % 4294967296)
+abbrev pub codeBytes : ℕ → List ℕ
+codeBytes code = tagOf code ∷ little 4 (code % 4294967296)
 
-abbrev pub wordsBytes : List ℕ → List ℕ
-wordsBytes words = joined (map wordBytes words)
+abbrev pub codesBytes : List ℕ → List ℕ
+codesBytes codes = joined (map codeBytes codes)
 
 -- "a summary number in each subgoal where a relation number stood": the row r, of so many terms
 abbrev pub rowBytes : List ℕ → ℕ → ℕ → List ℕ
-rowBytes words r wide = getD words (9 * r) 0 % 256 ∷ wordsBytes (take wide (drop (9 * r + 1) words))
+rowBytes codes r wide = getD codes (9 * r) 0 % 256 ∷ codesBytes (take wide (drop (9 * r + 1) codes))
 
 -- k rows from r on
 abbrev pub rowsBytes : List ℕ → List ℕ → ℕ → ℕ → List ℕ
-rowsBytes words widths r zero = []
-rowsBytes words widths r (suc k) = rowBytes words r (getD widths r 0) ++ rowsBytes words widths (suc r) k
+rowsBytes codes widths r zero = []
+rowsBytes codes widths r (suc k) = rowBytes codes r (getD widths r 0) ++ rowsBytes codes widths (suc r) k
 
--- k rows stand in the words, none of more than eight terms
-pub record Rows (words widths : List ℕ) (k : ℕ) : Type 0 where
-  pub stand : 9 * k ≤ length words
+-- k rows stand in the codes, none of more than eight terms
+pub record RowsStand (codes widths : List ℕ) (k : ℕ) : Type 0 where
+  pub stand : 9 * k ≤ length codes
   pub told : k ≤ length widths
   pub narrow : (r : ℕ) → getD widths r 0 ≤ 8
 
 -- the question's head, then k rows
 abbrev pub rewritingBytes : List ℕ → List ℕ → List ℕ → ℕ → List ℕ
-rewritingBytes body words widths k = getD body 0 0 ∷ k ∷ (take (5 * getD body 0 0) (drop 2 body) ++ rowsBytes words widths 0 k)
+rewritingBytes body codes widths k = getD body 0 0 ∷ k ∷ (take (5 * getD body 0 0) (drop 2 body) ++ rowsBytes codes widths 0 k)
 
 -- there is room for the longest rewriting, and the question's head and the rows stand where they are read
-pub record Writable (out body words widths : List ℕ) (k : ℕ) : Type 0 where
+pub record Writable (out body codes widths : List ℕ) (k : ℕ) : Type 0 where
   pub room : 534 ≤ length out
   pub short : getD body 0 0 ≤ 8
   pub head : 2 + 5 * getD body 0 0 ≤ length body
   pub few : k ≤ 12
-  pub rows : Rows words widths k
+  pub rows : RowsStand codes widths k

@@ -1,27 +1,27 @@
--- The words and widths of rows picked from the words of all rows.
+-- The codes and widths of rows picked from the codes of all rows.
 use mathlib.Core.Bool.{cond}
 use mathlib.Core.List.{List, [], _∷_, _++_}
 use Prim.Native.Nat.{ℕ, zero, suc, _+_, _*_, _<_, _≤_}
 use lib.Dec.{eqb}
 use lib.ListN.{length, getD, take, drop}
 
--- how many of at most n words from `at` on stand before a word of 1
+-- how many of at most n codes from `at` on stand before a code of 1
 unfoldable pub widthIn : List ℕ → ℕ → ℕ → ℕ
-widthIn words at zero = 0
-widthIn words at (suc n) = cond (eqb (getD words at 0) 1) 0 (suc (widthIn words (suc at) n))
+widthIn codes at zero = 0
+widthIn codes at (suc n) = cond (eqb (getD codes at 0) 1) 0 (suc (widthIn codes (suc at) n))
 
--- the nine words of each of n rows, named from i on
-abbrev pub pickedWords : List ℕ → List ℕ → ℕ → ℕ → List ℕ
-pickedWords words rows i zero = []
-pickedWords words rows i (suc n) = take 9 (drop (9 * getD rows i 0) words) ++ pickedWords words rows (suc i) n
+-- the nine codes of each of n rows, named from i on
+abbrev pub pickedCodes : List ℕ → List ℕ → ℕ → ℕ → List ℕ
+pickedCodes codes rows i zero = []
+pickedCodes codes rows i (suc n) = take 9 (drop (9 * getD rows i 0) codes) ++ pickedCodes codes rows (suc i) n
 
 abbrev pub pickedWidths : List ℕ → List ℕ → ℕ → ℕ → List ℕ
-pickedWidths words rows i zero = []
-pickedWidths words rows i (suc n) = widthIn words (9 * getD rows i 0 + 1) 8 ∷ pickedWidths words rows (suc i) n
+pickedWidths codes rows i zero = []
+pickedWidths codes rows i (suc n) = widthIn codes (9 * getD rows i 0 + 1) 8 ∷ pickedWidths codes rows (suc i) n
 
--- the rows named stand in the words, and there is room for them
-pub record Pickable (words rows : List ℕ) (k : ℕ) (out widths : List ℕ) : Type 0 where
+-- the rows named stand in the codes, and there is room for them
+pub record Pickable (codes rows : List ℕ) (k : ℕ) (out widths : List ℕ) : Type 0 where
   pub few : k ≤ 12
-  pub stand : (i : ℕ) → i < k → 9 * getD rows i 0 + 9 ≤ length words
+  pub stand : (i : ℕ) → i < k → 9 * getD rows i 0 + 9 ≤ length codes
   pub room : 9 * k ≤ length out
   pub told : k ≤ length widths

@@ -8,14 +8,14 @@ use Rattle.spec.specs.Answer.{Answer}
 use Rattle.spec.proofs.Decided.Rows.{allRows}
 use Rattle.spec.specs.Book.{Book, admittedOf}
 use Rattle.spec.specs.BookLayout.{SoundBook}
-use Rattle.codes.specs.Code.{termCode, wordsOf, widthsOf}
+use Rattle.codes.specs.Code.{termCode, codesOf, widthsOf}
 use Rattle.spec.specs.Table.{Fault1, Fault9}
 use Rattle.first_shortest.specs.Chosen.{Found}
 use Rattle.first_shortest.specs.declared.Chosen.{Chosen}
-use Rattle.row_choice.specs.Asked.{Asked}
+use Rattle.row_choice.specs.Asked.{ChoiceNeeds}
 
 -- The rows at the front are the answer to a sound book's question, and there is room for it.
-pub record Puts (book words widths : List ℕ) (k answer witness : ℕ) : Type 0 where
+pub record Puts (book codes widths : List ℕ) (k answer witness : ℕ) : Type 0 where
   pub value : Book
   pub sound : SoundBook book value
   pub few : Fault9 (admittedOf value) (value .question) → ⊥
@@ -25,13 +25,13 @@ pub record Puts (book words widths : List ℕ) (k answer witness : ℕ) : Type 0
   pub count : length list ≡ k
   pub short : k ≤ 12
   pub rest : List ℕ
-  pub words-are : words ≡ wordsOf termCode list ++ rest
+  pub codes-are : codes ≡ codesOf termCode list ++ rest
   pub more : List ℕ
   pub widths-are : widths ≡ widthsOf list ++ more
   pub narrow : (r : ℕ) → getD widths r 0 ≤ 8
 
 -- The rows chosen of all summary rows.
 pub record ChosenPut (book rows : List ℕ) (n : ℕ) (chosen : Chosen) (answer witness : ℕ) : Type 0 where
-  pub asked : Asked book rows n
+  pub asked : ChoiceNeeds book rows n
   pub found : Found (admittedOf (asked .value)) (asked .value .question) (allRows (admittedOf (asked .value)) (asked .value .question)) chosen
   pub room : Fault1 answer witness → ⊥

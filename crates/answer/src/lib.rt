@@ -3,7 +3,7 @@ ghost use lib.ListN.{length};
 ghost use Rattle.spec.specs.Rewriting.{Accepted};
 ghost use Rattle.answer.specs.Steps.{Puts, ChosenPut};
 
-mod picked; // the chosen rows, out of the words of all
+mod picked; // the chosen rows, out of the codes of all
 mod rule_bytes; // a rewriting as bytes
 
 use crate::picked::pick;
@@ -21,21 +21,21 @@ pub struct Lengths {
     pub witness: usize,
 }
 
-// The witness's two parts, then the answer: k rows, by their words and widths.
+// The witness's two parts, then the answer: k rows, by their codes and widths.
 fn put_all(
     book: &[u8],
-    words: &[u64],
+    codes: &[u64],
     widths: &[u8],
     k: usize,
     answer: &mut [u8],
     witness: &mut [u8],
 ) -> Lengths
-    requires { ⌜ Puts (now book) (now words) (now widths) k (length (now answer)) (length (now witness)) ⌝ }
+    requires { ⌜ Puts (now book) (now codes) (now widths) k (length (now answer)) (length (now witness)) ⌝ }
     ensures { λ r. ⌜ Accepted (now (book .entry)) (now (answer .entry)) (now (answer .exit)) (now (witness .entry)) (now (witness .exit)) (r .answer) (r .witness) ⌝ }
 {
-    let there = put_there(book, words, k, witness);
-    let back = put_back(book, words, k, witness, there);
-    let long = put_rule(answer, part_of(book, 1), words, widths, k);
+    let there = put_there(book, codes, k, witness);
+    let back = put_back(book, codes, k, witness, there);
+    let long = put_rule(answer, part_of(book, 1), codes, widths, k);
     Lengths {
         answer: long,
         witness: there + back,
@@ -56,8 +56,8 @@ pub fn put_chosen(
 {
     let k = chosen.k;
     let picks = chosen.rows;
-    let mut words = [0u64; QUESTION_CODES];
+    let mut codes = [0u64; QUESTION_CODES];
     let mut widths = [0u8; QUESTION_GOALS];
-    pick(rows, &picks, k, &mut words, &mut widths);
-    put_all(book, &words, &widths, k, answer, witness)
+    pick(rows, &picks, k, &mut codes, &mut widths);
+    put_all(book, &codes, &widths, k, answer, witness)
 }

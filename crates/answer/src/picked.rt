@@ -1,11 +1,11 @@
-// The chosen rows, out of the words of all rows.
+// The chosen rows, out of the codes of all rows.
 ghost use mathlib.Core.Path.{_≡_};
 ghost use Prim.Native.Nat.{_+_, _*_, _≤_, _<_};
 ghost use lib.ListN.{length, take, drop};
 ghost use lib.Seq.{sets};
-ghost use Rattle.answer.specs.Picked.{Pickable, pickedWords, widthIn, pickedWidths};
+ghost use Rattle.answer.specs.Picked.{Pickable, pickedCodes, widthIn, pickedWidths};
 
-// How many terms a row has: a word of 1 stands where they have ended.
+// How many terms a row has: a code of 1 stands where they have ended.
 use codes::NONE;
 use codes::SUBGOAL_CODES;
 use spec::MOST_ARITY;
@@ -13,13 +13,13 @@ use spec::QUESTION_GOALS;
 
 const WIDEST: u8 = MOST_ARITY as u8;
 
-fn width_in(words: &[u64], r: usize) -> u8
-    requires { ⌜ 9 * r + 9 ≤ length (now words) ⌝ }
-    ensures { λ n. ⌜ n ≡ widthIn (now (words .entry)) (9 * r + 1) 8 ⌝ }
+fn width_in(codes: &[u64], r: usize) -> u8
+    requires { ⌜ 9 * r + 9 ≤ length (now codes) ⌝ }
+    ensures { λ n. ⌜ n ≡ widthIn (now (codes .entry)) (9 * r + 1) 8 ⌝ }
 {
     let mut n: u8 = 0;
     while n < WIDEST {
-        if words[SUBGOAL_CODES * r + 1 + n as usize] == NONE {
+        if codes[SUBGOAL_CODES * r + 1 + n as usize] == NONE {
             return n;
         }
         n += 1;
@@ -27,34 +27,34 @@ fn width_in(words: &[u64], r: usize) -> u8
     n
 }
 
-// The nine words of row r, behind i rows.
-fn copy_row(words: &[u64], r: usize, out: &mut [u64], i: usize)
-    requires { ⌜ (9 * r + 9 ≤ length (now words)) × (9 * i + 9 ≤ length (now out)) ⌝ }
-    ensures { λ _. ⌜ now (out .exit) ≡ sets (now (out .entry)) (9 * i) (take 9 (drop (9 * r) (now (words .entry)))) ⌝ }
+// The nine codes of row r, behind i rows.
+fn copy_row(codes: &[u64], r: usize, out: &mut [u64], i: usize)
+    requires { ⌜ (9 * r + 9 ≤ length (now codes)) × (9 * i + 9 ≤ length (now out)) ⌝ }
+    ensures { λ _. ⌜ now (out .exit) ≡ sets (now (out .entry)) (9 * i) (take 9 (drop (9 * r) (now (codes .entry)))) ⌝ }
 {
     let mut a: usize = 0;
     while a < SUBGOAL_CODES {
-        out[SUBGOAL_CODES * i + a] = words[SUBGOAL_CODES * r + a];
+        out[SUBGOAL_CODES * i + a] = codes[SUBGOAL_CODES * r + a];
         a += 1;
     }
 }
 
-// The words and the widths of the rows picked, k of them.
+// The codes and the widths of the rows picked, k of them.
 pub(crate) fn pick(
-    words: &[u64],
+    codes: &[u64],
     rows: &[u8; QUESTION_GOALS],
     k: usize,
     out: &mut [u64],
     widths: &mut [u8],
 )
-    requires { ⌜ Pickable (now words) (now rows) k (now out) (now widths) ⌝ }
-    ensures { λ _. ⌜ (now (out .exit) ≡ sets (now (out .entry)) 0 (pickedWords (now (words .entry)) (now (rows .entry)) 0 k)) × (now (widths .exit) ≡ sets (now (widths .entry)) 0 (pickedWidths (now (words .entry)) (now (rows .entry)) 0 k)) ⌝ }
+    requires { ⌜ Pickable (now codes) (now rows) k (now out) (now widths) ⌝ }
+    ensures { λ _. ⌜ (now (out .exit) ≡ sets (now (out .entry)) 0 (pickedCodes (now (codes .entry)) (now (rows .entry)) 0 k)) × (now (widths .exit) ≡ sets (now (widths .entry)) 0 (pickedWidths (now (codes .entry)) (now (rows .entry)) 0 k)) ⌝ }
 {
     let mut i: usize = 0;
     while i < k {
         let r = rows[i] as usize;
-        copy_row(words, r, out, i);
-        widths[i] = width_in(words, r);
+        copy_row(codes, r, out, i);
+        widths[i] = width_in(codes, r);
         i += 1;
     }
 }

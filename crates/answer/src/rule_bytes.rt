@@ -1,68 +1,68 @@
-// A rewriting written as bytes: the question's head, and rows from the words that the search has them in.
+// A rewriting written as bytes: the question's head, and rows from the codes that the search has them in.
 ghost use mathlib.Core.Path.{_≡_};
 ghost use Prim.Native.Nat.{_+_, _*_, _≤_, _<_};
 ghost use lib.ListN.{length, take, drop, getD};
 ghost use lib.Seq.{sets};
-ghost use Rattle.answer.specs.Bytes.{tagOf, wordBytes, wordsBytes, rowBytes, rowsBytes, Rows, rewritingBytes, Writable};
+ghost use Rattle.answer.specs.Bytes.{tagOf, codeBytes, codesBytes, rowBytes, rowsBytes, RowsStand, rewritingBytes, Writable};
 
-// 0 for a variable's word, 1 for a constant's.
+// 0 for a variable's code, 1 for a constant's.
 use codes::CONSTANT;
 use codes::SUBGOAL_CODES;
 use codes::UNIT;
 
-fn tag_byte(word: u64) -> u8
-    ensures { λ r. ⌜ r ≡ tagOf word ⌝ }
+fn tag_byte(code: u64) -> u8
+    ensures { λ r. ⌜ r ≡ tagOf code ⌝ }
 {
-    if word < CONSTANT { 0 } else { 1 }
+    if code < CONSTANT { 0 } else { 1 }
 }
 
 // A term: its tag, then its number in four bytes.
-fn put_term(out: &mut [u8], at: usize, word: u64)
+fn put_term(out: &mut [u8], at: usize, code: u64)
     requires { ⌜ at + 5 ≤ length (now out) ⌝ }
-    ensures { λ _. ⌜ now (out .exit) ≡ sets (now (out .entry)) at (wordBytes word) ⌝ }
+    ensures { λ _. ⌜ now (out .exit) ≡ sets (now (out .entry)) at (codeBytes code) ⌝ }
 {
-    let n = word % UNIT;
+    let n = code % UNIT;
     let a = n / 256;
     let b = a / 256;
     let c = b / 256;
-    out[at] = tag_byte(word);
+    out[at] = tag_byte(code);
     out[at + 1] = (n % 256) as u8;
     out[at + 2] = (a % 256) as u8;
     out[at + 3] = (b % 256) as u8;
     out[at + 4] = (c % 256) as u8;
 }
 
-// k terms, whose words stand from `from` on.
-fn put_terms(out: &mut [u8], at: usize, words: &[u64], from: usize, k: usize)
-    requires { ⌜ (at + 5 * k ≤ length (now out)) × (from + k ≤ length (now words)) ⌝ }
-    ensures { λ _. ⌜ now (out .exit) ≡ sets (now (out .entry)) at (wordsBytes (take k (drop from (now (words .entry))))) ⌝ }
+// k terms, whose codes stand from `from` on.
+fn put_terms(out: &mut [u8], at: usize, codes: &[u64], from: usize, k: usize)
+    requires { ⌜ (at + 5 * k ≤ length (now out)) × (from + k ≤ length (now codes)) ⌝ }
+    ensures { λ _. ⌜ now (out .exit) ≡ sets (now (out .entry)) at (codesBytes (take k (drop from (now (codes .entry))))) ⌝ }
 {
     let mut i: usize = 0;
     while i < k {
-        put_term(out, at + 5 * i, words[from + i]);
+        put_term(out, at + 5 * i, codes[from + i]);
         i += 1;
     }
 }
 
 // The row r: its summary's number, then its terms.
-fn put_row(out: &mut [u8], at: usize, words: &[u64], r: usize, wide: usize)
-    requires { ⌜ (at + 1 + 5 * wide ≤ length (now out)) × (9 * r + 1 + wide ≤ length (now words)) ⌝ }
-    ensures { λ _. ⌜ now (out .exit) ≡ sets (now (out .entry)) at (rowBytes (now (words .entry)) r wide) ⌝ }
+fn put_row(out: &mut [u8], at: usize, codes: &[u64], r: usize, wide: usize)
+    requires { ⌜ (at + 1 + 5 * wide ≤ length (now out)) × (9 * r + 1 + wide ≤ length (now codes)) ⌝ }
+    ensures { λ _. ⌜ now (out .exit) ≡ sets (now (out .entry)) at (rowBytes (now (codes .entry)) r wide) ⌝ }
 {
-    out[at] = (words[SUBGOAL_CODES * r] % 256) as u8;
-    put_terms(out, at + 1, words, SUBGOAL_CODES * r + 1, wide);
+    out[at] = (codes[SUBGOAL_CODES * r] % 256) as u8;
+    put_terms(out, at + 1, codes, SUBGOAL_CODES * r + 1, wide);
 }
 
 // k rows, one after the other; answers the place behind them.
-fn put_rows(out: &mut [u8], at: usize, words: &[u64], widths: &[u8], k: usize) -> usize
-    requires { ⌜ Rows (now words) (now widths) k × (at + 41 * k ≤ length (now out)) ⌝ }
-    ensures { λ r. ⌜ (now (out .exit) ≡ sets (now (out .entry)) at (rowsBytes (now (words .entry)) (now (widths .entry)) 0 k)) × (r ≡ at + length (rowsBytes (now (words .entry)) (now (widths .entry)) 0 k)) ⌝ }
+fn put_rows(out: &mut [u8], at: usize, codes: &[u64], widths: &[u8], k: usize) -> usize
+    requires { ⌜ RowsStand (now codes) (now widths) k × (at + 41 * k ≤ length (now out)) ⌝ }
+    ensures { λ r. ⌜ (now (out .exit) ≡ sets (now (out .entry)) at (rowsBytes (now (codes .entry)) (now (widths .entry)) 0 k)) × (r ≡ at + length (rowsBytes (now (codes .entry)) (now (widths .entry)) 0 k)) ⌝ }
 {
     let mut p = at;
     let mut r: usize = 0;
     while r < k {
         let wide = widths[r] as usize;
-        put_row(out, p, words, r, wide);
+        put_row(out, p, codes, r, wide);
         p = p + 1 + 5 * wide;
         r += 1;
     }
@@ -82,13 +82,13 @@ fn put_bytes(out: &mut [u8], at: usize, bytes: &[u8], from: usize, k: usize)
 }
 
 // A rewriting: the head's length and terms are those of the question's bytes, the subgoals are k rows.
-pub fn put_rule(out: &mut [u8], body: &[u8], words: &[u64], widths: &[u8], k: usize) -> usize
-    requires { ⌜ Writable (now out) (now body) (now words) (now widths) k ⌝ }
-    ensures { λ r. ⌜ (now (out .exit) ≡ sets (now (out .entry)) 0 (rewritingBytes (now (body .entry)) (now (words .entry)) (now (widths .entry)) k)) × (r ≡ length (rewritingBytes (now (body .entry)) (now (words .entry)) (now (widths .entry)) k)) ⌝ }
+pub fn put_rule(out: &mut [u8], body: &[u8], codes: &[u64], widths: &[u8], k: usize) -> usize
+    requires { ⌜ Writable (now out) (now body) (now codes) (now widths) k ⌝ }
+    ensures { λ r. ⌜ (now (out .exit) ≡ sets (now (out .entry)) 0 (rewritingBytes (now (body .entry)) (now (codes .entry)) (now (widths .entry)) k)) × (r ≡ length (rewritingBytes (now (body .entry)) (now (codes .entry)) (now (widths .entry)) k)) ⌝ }
 {
     let heads = body[0] as usize;
     out[0] = body[0];
     out[1] = k as u8;
     put_bytes(out, 2, body, 2, 5 * heads);
-    put_rows(out, 2 + 5 * heads, words, widths, k)
+    put_rows(out, 2 + 5 * heads, codes, widths, k)
 }

@@ -19,14 +19,14 @@ use Rattle.outcomes.proofs.Bounds.{book-bounds}
 use Rattle.search_meaning.proofs.InUse.{uses-few}
 use Rattle.search_meaning.proofs.Back.{back-sized, back-is, back-first, back-some}
 use Rattle.book_codes.specs.Question.{SomeSound, QuestionTarget, QuestionBound}
-use Rattle.book_codes.proofs.Lent.{targets-few, target-words}
+use Rattle.book_codes.proofs.Lent.{targets-few, target-codes}
 use Rattle.spec.proofs.Lists.Zeros.{zeros-at}
-use Rattle.book_codes.specs.UsesLent.{FromOf, From}
+use Rattle.book_codes.specs.UsesLent.{SourceUsesOf, SourceUses}
 
-pub some-sound : {book source widths lasts : List ℕ} → From book source widths lasts → SomeSound book
+pub some-sound : {book source widths lasts : List ℕ} → SourceUses book source widths lasts → SomeSound book
 some-sound o = record { value = o .value; sound = o .is .list .sound }
 
-module _ {book source widths lasts : List ℕ} (b : Book) (l : List (Subgoal (Term ℕ))) (o : FromOf book source widths lasts b l)
+module _ {book source widths lasts : List ℕ} (b : Book) (l : List (Subgoal (Term ℕ))) (o : SourceUsesOf book source widths lasts b l)
     {before after : List ℕ} {n : ℕ} (target : QuestionTarget book before after n) {bound : List ℕ} (heads : QuestionBound book bound) where
   abbrev s : Summaries
   s = admittedOf b
@@ -41,7 +41,7 @@ module _ {book source widths lasts : List ℕ} (b : Book) (l : List (Subgoal (Te
   lent = posed source widths lasts (take (9 * n) after) own
 
   task-is : lent ≡ backTask s (b .question) l own
-  task-is = λ i. record { source = o .words i; widths = o .wide i; lasts = o .ends i; target = target-words b (o .list .sound) target i; own = own }
+  task-is = λ i. record { source = o .codes i; widths = o .wide i; lasts = o .ends i; target = target-codes b (o .list .sound) target i; own = own }
 
   bounds : Bounds (b .arities) s (b .question)
   bounds = book-bounds b (o .list .sound .value)

@@ -15,7 +15,7 @@ use Rattle.book_codes.specs.OneUse.{OneCount}
 use Rattle.book_codes.specs.RowsGiven.{RowsOf}
 use Rattle.book_codes.specs.Insides.{starts}
 use Rattle.book_codes.specs.AllUses.{AllStarts}
-use Rattle.book_codes.proofs.Growing.{rowFrom, row-of, uses-take, uses-many, Reached, Goals}
+use Rattle.book_codes.proofs.Growing.{rowFrom, row-of, uses-take, uses-many, GoalsReached, Goals}
 
 module _ {A : Type 0} where
   pub starts-long : (at : ℕ) (ls : List (List A)) → length (starts at ls) ≡ length ls + 1
@@ -43,7 +43,7 @@ module _ {book rows : List ℕ} {n : ℕ} where
   begun-starts [] h = absurd (omega arith)
   begun-starts (x ∷ before) h = record { long = refl; is = λ b l w. refl }
 
-  pub begun-goes : {before after : List ℕ} {r at goals : ℕ} → r < n → n + 1 ≤ length before → Reached book rows n r at → Goals book rows n r goals
+  pub begun-goes : {before after : List ℕ} {r at goals : ℕ} → r < n → n + 1 ≤ length before → GoalsReached book rows n r at → Goals book rows n r goals
       → Begun book rows n before r after → Begun book rows n before (r + 1) (set after (r + 1) (at + goals))
   begun-goes {before} {after} {r} {at} {goals} turn room reached g s = record { long = length-set after (r + 1) (at + goals) ∙ s .long; is = is }
     where

@@ -16,7 +16,7 @@ use Rattle.spec.proofs.Lists.Finite.{is-in}
 use Rattle.spec.proofs.Bytes.Within.{entries-some}
 use Rattle.codes.specs.Code.{slotCode, termCode}
 use Rattle.rule_codes.specs.Laid.{Laid, LaidFor}
-use Rattle.rule_codes.specs.Promises.{BodyWords, BodyWidths}
+use Rattle.rule_codes.specs.Promises.{BodyCodes, BodyWidths}
 use Rattle.rule_codes.specs.Heads.{HeadBindings}
 use Rattle.search_meaning.specs.HeadBound.{HeadBound}
 use Rattle.book_codes.specs.Question.{SomeSound, QuestionSource, QuestionTarget, QuestionBound}
@@ -50,12 +50,12 @@ module _ {book : List ℕ} (w : SomeSound book) where
           let l = layout-is (w .value) (w .sound) in
           record { most = questionMost; rule = w .value .question; layout = l; room = room (length (w .value .question .body)) (l .within .few) }
 
-      pub source-is : {before after old new : List ℕ} {n : ℕ} → BodyWords relations body slotCode before after n → BodyWidths relations body old new n → QuestionSource book before after old new n
+      pub source-is : {before after old new : List ℕ} {n : ℕ} → BodyCodes relations body slotCode before after n → BodyWidths relations body old new n → QuestionSource book before after old new n
       source-is f g = record {
         count = λ b s. f .count questionMost (b .question) (layout-is b s);
-        words = λ b s. f .words questionMost (b .question) (layout-is b s);
+        codes = λ b s. f .codes questionMost (b .question) (layout-is b s);
         widths = λ b s. g .widths questionMost (b .question) (layout-is b s);
       }
 
-      pub target-is : {before after : List ℕ} {n : ℕ} → BodyWords relations body termCode before after n → QuestionTarget book before after n
-      target-is f = record { count = λ b s. f .count questionMost (b .question) (layout-is b s); words = λ b s. f .words questionMost (b .question) (layout-is b s) }
+      pub target-is : {before after : List ℕ} {n : ℕ} → BodyCodes relations body termCode before after n → QuestionTarget book before after n
+      target-is f = record { count = λ b s. f .count questionMost (b .question) (layout-is b s); codes = λ b s. f .codes questionMost (b .question) (layout-is b s) }

@@ -1,4 +1,4 @@
--- The question's words in areas that were empty before, as they are lent on.
+-- The question's codes in areas that were empty before, as they are lent on.
 use mathlib.Core.Path.{_≡_, sym, ap, _∙_}
 use mathlib.Core.List.{List}
 use Prim.Native.Nat.{ℕ, _*_, _≤_}
@@ -7,9 +7,9 @@ use lib.ListN.{length, take, length-map}
 use Rattle.spec.specs.Words.{Term, Subgoal}
 use Rattle.spec.specs.Book.{Book}
 use Rattle.spec.specs.BookLayout.{SoundBook}
-use Rattle.codes.specs.Code.{slotCode, termCode, wordsOf, widthsOf}
+use Rattle.codes.specs.Code.{slotCode, termCode, codesOf, widthsOf}
 use Rattle.rule_codes.proofs.Stores.{front-length, front-again}
-use Rattle.rule_codes.proofs.WordLaws.{words-length}
+use Rattle.codes.proofs.Padded.{codes-length}
 use Rattle.book_codes.specs.Question.{QuestionSource, QuestionTarget}
 
 module _ {book : List ℕ} (b : Book) (sound : SoundBook book b) where
@@ -21,7 +21,7 @@ module _ {book : List ℕ} (b : Book) (sound : SoundBook book b) where
     goals-few = omega (arith, s .count b sound, sound .value .question .within .few)
 
     pub source-long : 108 ≤ length before → length after ≡ length before
-    source-long wide = ap length (s .words b sound) ∙ front-length (wordsOf slotCode body) before (omega (arith, words-length slotCode body, s .count b sound, goals-few))
+    source-long wide = ap length (s .codes b sound) ∙ front-length (codesOf slotCode body) before (omega (arith, codes-length slotCode body, s .count b sound, goals-few))
 
     widths-count : length (widthsOf body) ≡ n
     widths-count = length-map body _ ∙ sym (s .count b sound)
@@ -35,8 +35,8 @@ module _ {book : List ℕ} (b : Book) (sound : SoundBook book b) where
     pub widths-room : 12 ≤ length old → n ≤ length new
     widths-room wide = omega (arith, goals-few, widths-long wide)
 
-    pub source-words : take (9 * n) after ≡ wordsOf slotCode body
-    source-words = front-again (wordsOf slotCode body) before after (9 * n) (s .words b sound) (omega (arith, words-length slotCode body, s .count b sound))
+    pub source-codes : take (9 * n) after ≡ codesOf slotCode body
+    source-codes = front-again (codesOf slotCode body) before after (9 * n) (s .codes b sound) (omega (arith, codes-length slotCode body, s .count b sound))
 
     pub source-widths : take n new ≡ widthsOf body
     source-widths = front-again (widthsOf body) old new n (s .widths b sound) widths-count
@@ -46,10 +46,10 @@ module _ {book : List ℕ} (b : Book) (sound : SoundBook book b) where
     targets-few = omega (arith, t .count b sound, sound .value .question .within .few)
 
     pub target-long : 108 ≤ length before → length after ≡ length before
-    target-long wide = ap length (t .words b sound) ∙ front-length (wordsOf termCode body) before (omega (arith, words-length termCode body, t .count b sound, targets-few))
+    target-long wide = ap length (t .codes b sound) ∙ front-length (codesOf termCode body) before (omega (arith, codes-length termCode body, t .count b sound, targets-few))
 
     pub target-room : 108 ≤ length before → 9 * n ≤ length after
     target-room wide = omega (arith, targets-few, target-long wide)
 
-    pub target-words : take (9 * n) after ≡ wordsOf termCode body
-    target-words = front-again (wordsOf termCode body) before after (9 * n) (t .words b sound) (omega (arith, words-length termCode body, t .count b sound))
+    pub target-codes : take (9 * n) after ≡ codesOf termCode body
+    target-codes = front-again (codesOf termCode body) before after (9 * n) (t .codes b sound) (omega (arith, codes-length termCode body, t .count b sound))

@@ -11,15 +11,14 @@ use Rattle.spec.specs.Summaries.{Summaries, Own, inPlace, uses, joined}
 use Rattle.spec.proofs.Lists.Counted.{counted}
 use Rattle.choice_theory.specs.Placed.{owners}
 use Rattle.choice_theory.specs.Numbered.{rowAt}
-use Rattle.codes.specs.Code.{wordsOf}
+use Rattle.codes.specs.Code.{codesOf}
 use Rattle.search_meaning.specs.Uses.{useAt, withinAt}
 use Rattle.search_meaning.proofs.Pairs.{use-here, use-later}
 use Rattle.search_meaning.proofs.Owners.{owners-long, owners-at, uses-long}
 use Rattle.rule_codes.specs.Codes.{atFront}
-use Rattle.rule_codes.proofs.WordLaws.{words-length}
+use Rattle.codes.proofs.Padded.{codes-length, codes-append}
 use Rattle.book_codes.proofs.Stored.{counted-long, counted-at}
 use Rattle.book_codes.specs.Insides.{insides, starts}
-use Rattle.codes.proofs.Padded.{words-append}
 use Rattle.book_codes.proofs.Beginnings.{starts-long}
 
 module _ {A : Type 0} where
@@ -58,17 +57,17 @@ pub first-start : {A : Type 0} (at : ℕ) (ls : List (List A)) → getD (starts 
 first-start at [] = refl
 first-start at (m ∷ ls) = refl
 
--- The r-th of lists whose words stand one after the other: what lies between its beginning and the next. The first begins at `at`.
+-- The r-th of lists whose codes stand one after the other: what lies between its beginning and the next. The first begins at `at`.
 record Between {A : Type 0} (code : A → ℕ) (at : ℕ) (ls : List (List (Subgoal A))) (rest : List ℕ) (r here next : ℕ) : Type 0 where
   low : at ≤ here
   goes : next ≡ here + length (getD ls r [])
   within : next ≤ at + length (joined ls)
-  words : take (9 * length (getD ls r [])) (drop (9 * (here - at)) (wordsOf code (joined ls) ++ rest)) ≡ wordsOf code (getD ls r [])
+  codes : take (9 * length (getD ls r [])) (drop (9 * (here - at)) (codesOf code (joined ls) ++ rest)) ≡ codesOf code (getD ls r [])
 
 module _ {A : Type 0} (code : A → ℕ) where
-  -- the first list's words, and what is behind them
-  apart : (m : List (Subgoal A)) (ls : List (List (Subgoal A))) (rest : List ℕ) → wordsOf code (joined (m ∷ ls)) ++ rest ≡ wordsOf code m ++ (wordsOf code (joined ls) ++ rest)
-  apart m ls rest = ap (λ w. w ++ rest) (words-append code m (joined ls)) ∙ append-assoc (wordsOf code m) (wordsOf code (joined ls)) rest
+  -- the first list's codes, and what is behind them
+  apart : (m : List (Subgoal A)) (ls : List (List (Subgoal A))) (rest : List ℕ) → codesOf code (joined (m ∷ ls)) ++ rest ≡ codesOf code m ++ (codesOf code (joined ls) ++ rest)
+  apart m ls rest = ap (λ w. w ++ rest) (codes-append code m (joined ls)) ∙ append-assoc (codesOf code m) (codesOf code (joined ls)) rest
 
   between : (at : ℕ) (ls : List (List (Subgoal A))) (rest : List ℕ) (r : ℕ) → r < length ls → Between code at ls rest r (getD (starts at ls) r 0) (getD (starts at ls) (suc r) 0)
   between at [] rest r h = absurd (omega arith)
@@ -76,9 +75,9 @@ module _ {A : Type 0} (code : A → ℕ) where
     low = omega arith;
     goes = first-start (at + length m) ls;
     within = omega (arith, first-start (at + length m) ls, length-append m (joined ls));
-    words =
+    codes =
         let e : 9 * (at - at) ≡ 0 = omega arith in
-        ap₂ (λ k w. take (9 * length m) (drop k w)) e (apart m ls rest) ∙ take-at (wordsOf code m) (wordsOf code (joined ls) ++ rest) (9 * length m) (words-length code m);
+        ap₂ (λ k w. take (9 * length m) (drop k w)) e (apart m ls rest) ∙ take-at (codesOf code m) (codesOf code (joined ls) ++ rest) (9 * length m) (codes-length code m);
   }
   between at (m ∷ ls) rest (suc r) h = go (between (at + length m) ls rest r (omega arith))
     where
@@ -86,16 +85,16 @@ module _ {A : Type 0} (code : A → ℕ) where
           → Between code at (m ∷ ls) rest (suc r) (getD (starts (at + length m) ls) r 0) (getD (starts (at + length m) ls) (suc r) 0)
       go b =
           let low = b .low in
-          let n = words-length code m in
+          let n = codes-length code m in
           record {
             low = omega arith;
             goes = b .goes;
             within = let w = b .within in omega (arith, length-append m (joined ls));
-            words =
+            codes =
                 let k = length (getD ls r []) in
                 let here = getD (starts (at + length m) ls) r 0 in
-                let e : 9 * (here - at) ≡ length (wordsOf code m) + 9 * (here - (at + length m)) = omega arith in
-                ap₂ (λ i w. take (9 * k) (drop i w)) e (apart m ls rest) ∙ ap (take (9 * k)) (drop-append-add (wordsOf code m) (wordsOf code (joined ls) ++ rest) (9 * (here - (at + length m)))) ∙ b .words;
+                let e : 9 * (here - at) ≡ length (codesOf code m) + 9 * (here - (at + length m)) = omega arith in
+                ap₂ (λ i w. take (9 * k) (drop i w)) e (apart m ls rest) ∙ ap (take (9 * k)) (drop-append-add (codesOf code m) (codesOf code (joined ls) ++ rest) (9 * (here - (at + length m)))) ∙ b .codes;
           }
 
 uses-at : (s : Summaries) (u : ℕ) (l : List (Subgoal (Term ℕ))) (r : ℕ) → r < length l → getD (uses s u l) r [] ≡ inPlace s (u + r) (rowAt l r)
@@ -103,19 +102,19 @@ uses-at s u [] r h = absurd (omega arith)
 uses-at s u (g ∷ l) zero h = let e : u ≡ u + 0 = omega arith in ap (λ v. inPlace s v g) e
 uses-at s u (g ∷ l) (suc r) h = let e : suc u + r ≡ u + suc r = omega arith in uses-at s (suc u) l r (omega arith) ∙ ap (λ v. inPlace s v (rowAt l r)) e
 
--- The part of the words from 9 × here to 9 × next is those of the row's use.
+-- The part of the codes from 9 × here to 9 × next is those of the row's use.
 pub record UsePart (s : Summaries) (l : List (Subgoal (Term ℕ))) (code : Term (Own ℕ) → ℕ) (area : List ℕ) (r here next : ℕ) : Type 0 where
   pub rises : next ≡ here + length (inPlace s r (rowAt l r))
   pub within : next ≤ length (joined (uses s 0 l))
-  pub words : take (9 * next - 9 * here) (drop (9 * here) area) ≡ wordsOf code (inPlace s r (rowAt l r))
+  pub codes : take (9 * next - 9 * here) (drop (9 * here) area) ≡ codesOf code (inPlace s r (rowAt l r))
 
 pub use-part : (s : Summaries) (l : List (Subgoal (Term ℕ))) (code : Term (Own ℕ) → ℕ) (before area startsBefore places : List ℕ)
-    → area ≡ atFront (wordsOf code (joined (uses s 0 l))) before → places ≡ atFront (starts 0 (uses s 0 l)) startsBefore
+    → area ≡ atFront (codesOf code (joined (uses s 0 l))) before → places ≡ atFront (starts 0 (uses s 0 l)) startsBefore
     → (r : ℕ) → r < length l → UsePart s l code area r (getD places r 0) (getD places (r + 1) 0)
 use-part s l code before area startsBefore places e f r h = rw (here, next) record {
   rises = b .goes ∙ ap (λ m. getD (starts 0 ls) r 0 + length m) same;
   within = let w = b .within in omega arith;
-  words = ap₂ (λ k i. take k (drop (9 * i) area)) many zeroed ∙ ap (λ w. take (9 * length (getD ls r [])) (drop (9 * (getD (starts 0 ls) r 0 - 0)) w)) e ∙ b .words ∙ ap (wordsOf code) same;
+  codes = ap₂ (λ k i. take k (drop (9 * i) area)) many zeroed ∙ ap (λ w. take (9 * length (getD ls r [])) (drop (9 * (getD (starts 0 ls) r 0 - 0)) w)) e ∙ b .codes ∙ ap (codesOf code) same;
 }
   where
     ls : List (List (Subgoal (Term (Own ℕ))))
@@ -124,8 +123,8 @@ use-part s l code before area startsBefore places e f r h = rw (here, next) reco
     less : r < length ls
     less = omega (arith, uses-long s 0 l)
 
-    b : Between code 0 ls (drop (length (wordsOf code (joined ls))) before) r (getD (starts 0 ls) r 0) (getD (starts 0 ls) (suc r) 0)
-    b = between code 0 ls (drop (length (wordsOf code (joined ls))) before) r less
+    b : Between code 0 ls (drop (length (codesOf code (joined ls))) before) r (getD (starts 0 ls) r 0) (getD (starts 0 ls) (suc r) 0)
+    b = between code 0 ls (drop (length (codesOf code (joined ls))) before) r less
 
     read : (k : ℕ) → k ≤ length ls → getD places k 0 ≡ getD (starts 0 ls) k 0
     read k o = ap (λ l. getD l k 0) f ∙ front-at (starts 0 ls) startsBefore k (omega (arith, starts-long 0 ls))

@@ -19,17 +19,17 @@ use Rattle.spec.proofs.Lists.Places.{place-in}
 use Rattle.spec.proofs.Bytes.Within.{entries-are, entries-some, loads-few}
 use Rattle.spec.proofs.Bytes.BookStands.{book-entries}
 use Rattle.spec.proofs.Bytes.BookPasses.{book-loads, summary-reads}
-use Rattle.codes.specs.Code.{termCode, padded, subgoalWords, wordsOf, widthsOf}
+use Rattle.codes.specs.Code.{termCode, padded, subgoalCodes, codesOf, widthsOf}
 use Rattle.rule_codes.specs.Codes.{atFront}
 use Rattle.rule_codes.specs.Laid.{Laid, LaidFor, UseOf, UseFor}
 use Rattle.rule_codes.specs.Promises.{GoalCount, BodyWidths}
-use Rattle.rule_codes.specs.Uses.{UseWords}
+use Rattle.rule_codes.specs.Uses.{UseCodes}
 use Rattle.rule_codes.proofs.CodeLaws.{widths-each}
-use Rattle.rule_codes.proofs.WordLaws.{padded-length, padded-front}
+use Rattle.codes.proofs.Padded.{padded-length, padded-front}
 use Rattle.book_codes.specs.RowGiven.{RowOf, RowGiven}
 use Rattle.book_codes.specs.OneUse.{OneUse, OneCount, OneWidths}
 
--- words behind the first, taken from nine at the front
+-- codes behind the first, taken from nine at the front
 behind : (row : List ℕ) (k x : ℕ) (l : List ℕ) → k ≤ 8 → take 9 row ≡ x ∷ l → take k (take (length row - 1) (drop 1 row)) ≡ take k l
 behind [] k x l h e = absurd (let z : _≡_ {A = ℕ} 0 1 = cc in omega arith)
 behind (y ∷ row) k x l h e =
@@ -59,12 +59,12 @@ module _ {book row : List ℕ} {b : Book} {g : Subgoal (Term ℕ)} (w : RowOf bo
 
   pub row-nine : 9 ≤ length row
   row-nine =
-      let e = ap length (w .words) in
+      let e = ap length (w .codes) in
       let n = padded-length 8 (map termCode (g .terms)) in
       omega (arith, length-take 9 row)
 
   pub row-relation : getD row 0 0 ≡ g .relation
-  row-relation = sym (getD-take 9 row 0 0 (omega arith)) ∙ ap (λ l. getD l 0 0) (w .words)
+  row-relation = sym (getD-take 9 row 0 0 (omega arith)) ∙ ap (λ l. getD l 0 0) (w .codes)
 
   pub row-entry : getD row 0 0 + 1 < entriesIn book
   row-entry = let p = place-within (b .summaries) (g .relation) (found .0) (found .1) in omega (arith, row-relation, book-entries (w .sound), entries-are (length (b .summaries)))
@@ -83,8 +83,8 @@ module _ {book row : List ℕ} {b : Book} {g : Subgoal (Term ℕ)} (w : RowOf bo
         plain = plain;
         long = w .over .long;
         within = w .within;
-        words =
-            behind row (length (g .terms)) (g .relation) (padded 8 (map termCode (g .terms))) short (w .words)
+        codes =
+            behind row (length (g .terms)) (g .relation) (padded 8 (map termCode (g .terms))) short (w .codes)
             ∙ ap (λ k. take k (padded 8 (map termCode (g .terms)))) (sym many) ∙ padded-front 8 (map termCode (g .terms)) (omega arith);
       }
 
@@ -126,7 +126,7 @@ module _ {book row : List ℕ} (given : RowGiven book row) where
         let n = goals (given .is) in
         record { some = omega arith; few = omega arith; count = λ b g u w. let o = use-of w arities bytes p q in e .is arities (o .most) (rule w) (o .layout) ∙ sym (use-count w u) }
 
-    pub one-use : {code : Term (Own ℕ) → ℕ} {u : ℕ} {before after : List ℕ} {n : ℕ} → UseWords arities bytes (take (length row - 1) (drop 1 row)) code u before after n → OneUse book row code u before after n
+    pub one-use : {code : Term (Own ℕ) → ℕ} {u : ℕ} {before after : List ℕ} {n : ℕ} → UseCodes arities bytes (take (length row - 1) (drop 1 row)) code u before after n → OneUse book row code u before after n
     one-use {u = u} e =
         let same = e .count (rule (given .is)) (given .goal .terms) (use-of (given .is) arities bytes p q) in
         let n = goals (given .is) in
@@ -134,7 +134,7 @@ module _ {book row : List ℕ} (given : RowGiven book row) where
           some = omega arith;
           few = omega arith;
           count = λ b g w. e .count (rule w) (g .terms) (use-of w arities bytes p q) ∙ sym (use-count w u);
-          words = λ b g w. e .words (rule w) (admittedOf b) g (use-of w arities bytes p q) (w .over .admitted);
+          codes = λ b g w. e .codes (rule w) (admittedOf b) g (use-of w arities bytes p q) (w .over .admitted);
         }
 
     pub one-widths : {before after : List ℕ} {n : ℕ} → BodyWidths arities bytes before after n → OneWidths book row before after

@@ -1,4 +1,4 @@
--- What is written of lists one after the other, list by list: one form for words, widths, numbers and marks.
+-- What is written of lists one after the other, list by list: one form for codes, widths, numbers and marks.
 use mathlib.Core.Path.{_≡_, refl, sym, ap, ap₂, _∙_}
 use mathlib.Core.List.{List, [], _∷_, _++_, append-assoc, append-nil}
 use Prim.Native.Nat.{ℕ, suc, _+_, _*_}
@@ -8,11 +8,11 @@ use lib.ListN.{length, replicate, length-append}
 use Rattle.spec.specs.Words.{Term, Subgoal}
 use Rattle.spec.specs.Summaries.{Summaries, inPlace, uses, joined}
 use Rattle.spec.proofs.Lists.Counted.{counted}
-use Rattle.codes.specs.Code.{wordsOf, widthsOf}
+use Rattle.codes.specs.Code.{codesOf, widthsOf}
 use Rattle.choice_theory.specs.Placed.{owners}
 use Rattle.search_meaning.specs.Uses.{endOf, endsOf}
 use Rattle.book_codes.specs.Insides.{insides}
-use Rattle.codes.proofs.Padded.{words-append}
+use Rattle.codes.proofs.Padded.{codes-append}
 
 -- Lists are numbered from u on; `one` says what is written of a list with its number.
 abbrev pub spread : {A : Type 0} → (ℕ → List A → List ℕ) → ℕ → List (List A) → List ℕ
@@ -38,9 +38,9 @@ widths-append : {A : Type 0} (l m : List (Subgoal A)) → widthsOf (l ++ m) ≡ 
 widths-append [] m = refl
 widths-append (g ∷ l) m = ap (_∷_ (length (g .terms))) (widths-append l m)
 
--- What is written of one list: words, widths, its number, places, and the mark of the end.
-abbrev pub wordsEach : {A : Type 0} → (A → ℕ) → ℕ → List (Subgoal A) → List ℕ
-wordsEach code u m = wordsOf code m
+-- What is written of one list: codes, widths, its number, places, and the mark of the end.
+abbrev pub codesEach : {A : Type 0} → (A → ℕ) → ℕ → List (Subgoal A) → List ℕ
+codesEach code u m = codesOf code m
 
 abbrev pub widthsEach : {A : Type 0} → ℕ → List (Subgoal A) → List ℕ
 widthsEach u m = widthsOf m
@@ -55,9 +55,9 @@ abbrev pub endEach : {A : Type 0} → ℕ → List A → List ℕ
 endEach u m = endOf (length m)
 
 module _ {A : Type 0} where
-  pub words-spread : (code : A → ℕ) (u : ℕ) (ls : List (List (Subgoal A))) → spread (wordsEach code) u ls ≡ wordsOf code (joined ls)
-  words-spread code u [] = refl
-  words-spread code u (m ∷ ls) = ap (λ w. wordsOf code m ++ w) (words-spread code (suc u) ls) ∙ sym (words-append code m (joined ls))
+  pub codes-spread : (code : A → ℕ) (u : ℕ) (ls : List (List (Subgoal A))) → spread (codesEach code) u ls ≡ codesOf code (joined ls)
+  codes-spread code u [] = refl
+  codes-spread code u (m ∷ ls) = ap (λ w. codesOf code m ++ w) (codes-spread code (suc u) ls) ∙ sym (codes-append code m (joined ls))
 
   pub widths-spread : (u : ℕ) (ls : List (List (Subgoal A))) → spread widthsEach u ls ≡ widthsOf (joined ls)
   widths-spread u [] = refl

@@ -11,24 +11,24 @@ use Rattle.rule_codes.proofs.Stores.{stores-more, stores-end}
 use Rattle.spec.proofs.Lists.Stores.{sets-more}
 
 -- The area after k of the numbers.
-pub record Stored (before : List ℕ) (at : ℕ) (words : List ℕ) (k : ℕ) (after : List ℕ) : Type 0 where
-  pub is : after ≡ sets before at (take k words)
+pub record NumbersStored (before : List ℕ) (at : ℕ) (codes : List ℕ) (k : ℕ) (after : List ℕ) : Type 0 where
+  pub is : after ≡ sets before at (take k codes)
 
-module _ (before : List ℕ) (at : ℕ) (words : List ℕ) where
-  pub store-starts : Stored before at words 0 before
+module _ (before : List ℕ) (at : ℕ) (codes : List ℕ) where
+  pub store-starts : NumbersStored before at codes 0 before
   store-starts = record { is = refl }
 
-  module _ {k : ℕ} {after : List ℕ} (s : Stored before at words k after) where
+  module _ {k : ℕ} {after : List ℕ} (s : NumbersStored before at codes k after) where
     pub store-long : length after ≡ length before
-    store-long = ap length (s .is) ∙ length-sets before at (take k words)
+    store-long = ap length (s .is) ∙ length-sets before at (take k codes)
 
-    pub store-goes : (v : ℕ) → k < length words → v ≡ getD words k 0 → Stored before at words (k + 1) (set after (at + k) v)
+    pub store-goes : (v : ℕ) → k < length codes → v ≡ getD codes k 0 → NumbersStored before at codes (k + 1) (set after (at + k) v)
     store-goes v h e =
         let one : k + 1 ≡ suc k = omega arith in
-        record { is = ap (λ a. set a (at + k) v) (s .is) ∙ stores-more before at words k v h e ∙ ap (λ j. sets before at (take j words)) (sym one) }
+        record { is = ap (λ a. set a (at + k) v) (s .is) ∙ stores-more before at codes k v h e ∙ ap (λ j. sets before at (take j codes)) (sym one) }
 
-    pub store-ends : length words ≤ k → after ≡ sets before at words
-    store-ends h = s .is ∙ stores-end before at words k h
+    pub store-ends : length codes ≤ k → after ≡ sets before at codes
+    store-ends h = s .is ∙ stores-end before at codes k h
 
 -- one number
 pub filled : (many number k : ℕ) → k < many → number ≡ getD (replicate many number) k 0

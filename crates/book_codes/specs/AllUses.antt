@@ -1,4 +1,4 @@
--- What is promised, of every value of the book and every list whose words the rows are.
+-- What is promised, of every value of the book and every list whose codes the rows are.
 use mathlib.Core.Path.{_≡_}
 use mathlib.Core.List.{List}
 use Prim.Native.Nat.{ℕ}
@@ -6,7 +6,7 @@ use lib.ListN.{length}
 use Rattle.spec.specs.Words.{Term, Subgoal}
 use Rattle.spec.specs.Summaries.{Own, uses, joined}
 use Rattle.spec.specs.Book.{Book, admittedOf}
-use Rattle.codes.specs.Code.{wordsOf, widthsOf}
+use Rattle.codes.specs.Code.{codesOf, widthsOf}
 use Rattle.choice_theory.specs.Placed.{owners}
 use Rattle.search_meaning.specs.Uses.{endsOf}
 use Rattle.rule_codes.specs.Codes.{atFront}
@@ -14,12 +14,12 @@ use Rattle.book_codes.specs.RowsGiven.{RowsOf}
 use Rattle.book_codes.specs.Insides.{insides, starts}
 
 module _ (book rows : List ℕ) (n : ℕ) where
-  pub record Counted (k : ℕ) : Type 0 where
+  pub record GoalsCounted (k : ℕ) : Type 0 where
     pub is : (b : Book) (l : List (Subgoal (Term ℕ))) → RowsOf book rows n b l → k ≡ length (joined (uses (admittedOf b) 0 l))
 
-  -- the words of all rows' uses, numbered from 0, one after the other
-  pub record AllWords (code : Term (Own ℕ) → ℕ) (before after : List ℕ) : Type 0 where
-    pub is : (b : Book) (l : List (Subgoal (Term ℕ))) → RowsOf book rows n b l → after ≡ atFront (wordsOf code (joined (uses (admittedOf b) 0 l))) before
+  -- the codes of all rows' uses, numbered from 0, one after the other
+  pub record AllCodes (code : Term (Own ℕ) → ℕ) (before after : List ℕ) : Type 0 where
+    pub is : (b : Book) (l : List (Subgoal (Term ℕ))) → RowsOf book rows n b l → after ≡ atFront (codesOf code (joined (uses (admittedOf b) 0 l))) before
 
   -- the number of the use that each subgoal stands in
   pub record AllOwners (before after : List ℕ) : Type 0 where

@@ -9,14 +9,14 @@ use Rattle.spec.specs.BookLayout.{SoundBook}
 use Rattle.outcomes.specs.Bounds.{RowsWithin}
 
 -- As many rows of a sound book as a rewriting may have.
-pub record FewOf (book rows : List ℕ) (k : ℕ) (b : Book) (l : List (Subgoal (Term ℕ))) : Type 0 where
+pub record FewRowsOf (book rows : List ℕ) (k : ℕ) (b : Book) (l : List (Subgoal (Term ℕ))) : Type 0 where
   pub rows-of : RowsOf book rows k b l
   pub few : k ≤ 12
 
-pub record Few (book rows : List ℕ) (k : ℕ) : Type 0 where
+pub record FewRows (book rows : List ℕ) (k : ℕ) : Type 0 where
   pub value : Book
   pub list : List (Subgoal (Term ℕ))
-  pub is : FewOf book rows k value list
+  pub is : FewRowsOf book rows k value list
 
 -- A list of few rows of a sound book.
 pub record ListOf (book : List ℕ) (b : Book) (l : List (Subgoal (Term ℕ))) : Type 0 where

@@ -1,4 +1,4 @@
--- What is promised, of every value of the book and every row whose words are given.
+-- What is promised, of every value of the book and every row whose codes are given.
 use mathlib.Core.Path.{_≡_}
 use mathlib.Core.List.{List}
 use Prim.Native.Nat.{ℕ, _≤_}
@@ -6,17 +6,17 @@ use lib.ListN.{length}
 use Rattle.spec.specs.Words.{Term, Subgoal}
 use Rattle.spec.specs.Summaries.{Own, inPlace}
 use Rattle.spec.specs.Book.{Book, admittedOf}
-use Rattle.codes.specs.Code.{wordsOf, widthsOf}
+use Rattle.codes.specs.Code.{codesOf, widthsOf}
 use Rattle.rule_codes.specs.Codes.{atFront}
 use Rattle.book_codes.specs.RowGiven.{RowOf}
 
 module _ (book row : List ℕ) where
-  -- the words of one row's use, numbered u, at the front of an area
+  -- the codes of one row's use, numbered u, at the front of an area
   pub record OneUse (code : Term (Own ℕ) → ℕ) (u : ℕ) (before after : List ℕ) (n : ℕ) : Type 0 where
     pub some : 1 ≤ n
     pub few : n ≤ 8
     pub count : (b : Book) (g : Subgoal (Term ℕ)) → RowOf book row b g → n ≡ length (inPlace (admittedOf b) u g)
-    pub words : (b : Book) (g : Subgoal (Term ℕ)) → RowOf book row b g → after ≡ atFront (wordsOf code (inPlace (admittedOf b) u g)) before
+    pub codes : (b : Book) (g : Subgoal (Term ℕ)) → RowOf book row b g → after ≡ atFront (codesOf code (inPlace (admittedOf b) u g)) before
 
   -- how many subgoals it has
   pub record OneCount (n : ℕ) : Type 0 where

@@ -1,11 +1,11 @@
--- What is promised of a sound book's question as words, of every value of the book.
+-- What is promised of a sound book's question as codes, of every value of the book.
 use mathlib.Core.Path.{_≡_}
 use mathlib.Core.List.{List}
 use Prim.Native.Nat.{ℕ}
 use lib.ListN.{length}
 use Rattle.spec.specs.Book.{Book}
 use Rattle.spec.specs.BookLayout.{SoundBook}
-use Rattle.codes.specs.Code.{slotCode, termCode, wordsOf, widthsOf}
+use Rattle.codes.specs.Code.{slotCode, termCode, codesOf, widthsOf}
 use Rattle.rule_codes.specs.Codes.{atFront}
 use Rattle.search_meaning.specs.HeadBound.{HeadBound}
 
@@ -13,16 +13,16 @@ pub record SomeSound (book : List ℕ) : Type 0 where
   pub value : Book
   pub sound : SoundBook book value
 
--- words and widths of its body as a source, at the fronts of two areas
+-- codes and widths of its body as a source, at the fronts of two areas
 pub record QuestionSource (book before after old new : List ℕ) (n : ℕ) : Type 0 where
   pub count : (b : Book) → SoundBook book b → n ≡ length (b .question .body)
-  pub words : (b : Book) → SoundBook book b → after ≡ atFront (wordsOf slotCode (b .question .body)) before
+  pub codes : (b : Book) → SoundBook book b → after ≡ atFront (codesOf slotCode (b .question .body)) before
   pub widths : (b : Book) → SoundBook book b → new ≡ atFront (widthsOf (b .question .body)) old
 
--- words of its body as a target
+-- codes of its body as a target
 pub record QuestionTarget (book before after : List ℕ) (n : ℕ) : Type 0 where
   pub count : (b : Book) → SoundBook book b → n ≡ length (b .question .body)
-  pub words : (b : Book) → SoundBook book b → after ≡ atFront (wordsOf termCode (b .question .body)) before
+  pub codes : (b : Book) → SoundBook book b → after ≡ atFront (codesOf termCode (b .question .body)) before
 
 -- each variable of its head is bound to itself, and nothing else is bound
 pub record QuestionBound (book bound : List ℕ) : Type 0 where

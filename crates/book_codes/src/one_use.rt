@@ -10,8 +10,8 @@ use books::parts::part_of;
 use rule_codes::bodies::body_widths;
 use rule_codes::places::goal_count;
 use rule_codes::uses::kept_slots;
+use rule_codes::uses::own_codes;
 use rule_codes::uses::own_slots;
-use rule_codes::uses::own_words;
 
 // The bytes of the row's summary: "entry i + 1 summary i".
 fn summary_of<'a>(book: &'a [u8], row: &[u64]) -> &'a [u8]
@@ -28,7 +28,7 @@ pub fn own_use(book: &[u8], row: &[u64], u: u64, out: &mut [u64]) -> usize
 {
     let body = summary_of(book, row);
     let relations = part_of(book, 0);
-    own_words(body, relations, &row[1..], u, out)
+    own_codes(body, relations, &row[1..], u, out)
 }
 
 // How many subgoals it has.

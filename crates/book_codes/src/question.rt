@@ -1,29 +1,29 @@
-// The question of a sound book as words.
+// The question of a sound book as codes.
 ghost use Prim.Native.Nat.{_≤_};
 ghost use lib.ListN.{length};
 ghost use Rattle.book_codes.specs.Question.{SomeSound, QuestionSource, QuestionTarget, QuestionBound};
 use books::parts::part_of;
 use codes::SLOTS;
-use rule_codes::bodies::slot_words;
-use rule_codes::bodies::term_words;
+use rule_codes::bodies::slot_codes;
+use rule_codes::bodies::term_codes;
 use rule_codes::heads::head_bindings;
 use spec::QUESTION_GOALS;
 
-// As a source: nine words and a width for each subgoal. Returns how many there are.
+// As a source: nine codes and a width for each subgoal. Returns how many there are.
 pub fn question_source(book: &[u8], out: &mut [u64], widths: &mut [u8]) -> usize
     requires { ⌜ SomeSound (now book) × (108 ≤ length (now out)) × (12 ≤ length (now widths)) ⌝ }
     ensures { λ r. ⌜ QuestionSource (now (book .entry)) (now (out .entry)) (now (out .exit)) (now (widths .entry)) (now (widths .exit)) r ⌝ }
 {
-    slot_words(part_of(book, 1), part_of(book, 0), out, widths)
+    slot_codes(part_of(book, 1), part_of(book, 0), out, widths)
 }
 
-// As a target: nine words for each subgoal. Returns how many there are.
+// As a target: nine codes for each subgoal. Returns how many there are.
 pub fn question_target(book: &[u8], out: &mut [u64]) -> usize
     requires { ⌜ SomeSound (now book) × (108 ≤ length (now out)) ⌝ }
     ensures { λ r. ⌜ QuestionTarget (now (book .entry)) (now (out .entry)) (now (out .exit)) r ⌝ }
 {
     let mut widths = [0u8; QUESTION_GOALS];
-    term_words(part_of(book, 1), part_of(book, 0), out, &mut widths)
+    term_codes(part_of(book, 1), part_of(book, 0), out, &mut widths)
 }
 
 // "head to head place by place": each variable of the head is bound to itself.

@@ -4,7 +4,7 @@ ghost use Prim.Native.Nat.{_+_, _*_, _<_, _≤_};
 ghost use lib.ListN.{length};
 ghost use Rattle.codes.specs.Code.{ownCode, ownSlot};
 ghost use Rattle.book_codes.specs.RowsGiven.{RowsGiven};
-ghost use Rattle.book_codes.specs.AllUses.{Counted, AllWords, AllOwners, AllInsides, AllWidths, AllEnds, AllStarts};
+ghost use Rattle.book_codes.specs.AllUses.{GoalsCounted, AllCodes, AllOwners, AllInsides, AllWidths, AllEnds, AllStarts};
 use crate::marks::count_up;
 use crate::marks::fill;
 use crate::marks::mark_end;
@@ -13,7 +13,7 @@ use crate::one_use::slot_use;
 use crate::one_use::use_count;
 use codes::SUBGOAL_CODES;
 
-// As a target: of each subgoal its nine words, the number of its use and its place there. Returns how many subgoals there are.
+// As a target: of each subgoal its nine codes, the number of its use and its place there. Returns how many subgoals there are.
 pub fn expand(
     book: &[u8],
     rows: &[u64],
@@ -23,7 +23,7 @@ pub fn expand(
     inner: &mut [u8],
 ) -> usize
     requires { ⌜ RowsGiven (now book) (now rows) n × (n ≤ 64) × (72 * n ≤ length (now out)) × (8 * n ≤ length (now own)) × (8 * n ≤ length (now inner)) ⌝ }
-    ensures { λ r. ⌜ Counted (now (book .entry)) (now (rows .entry)) n r × AllWords (now (book .entry)) (now (rows .entry)) n ownCode (now (out .entry)) (now (out .exit)) × AllOwners (now (book .entry)) (now (rows .entry)) n (now (own .entry)) (now (own .exit)) × AllInsides (now (book .entry)) (now (rows .entry)) n (now (inner .entry)) (now (inner .exit)) ⌝ }
+    ensures { λ r. ⌜ GoalsCounted (now (book .entry)) (now (rows .entry)) n r × AllCodes (now (book .entry)) (now (rows .entry)) n ownCode (now (out .entry)) (now (out .exit)) × AllOwners (now (book .entry)) (now (rows .entry)) n (now (own .entry)) (now (own .exit)) × AllInsides (now (book .entry)) (now (rows .entry)) n (now (inner .entry)) (now (inner .exit)) ⌝ }
 {
     let mut at: usize = 0;
     let mut r: usize = 0;
@@ -39,7 +39,7 @@ pub fn expand(
     at
 }
 
-// As a source: of each subgoal its nine words, how many terms it has, and whether it ends its use. Returns how many subgoals there are.
+// As a source: of each subgoal its nine codes, how many terms it has, and whether it ends its use. Returns how many subgoals there are.
 pub fn expand_back(
     book: &[u8],
     rows: &[u64],
@@ -49,7 +49,7 @@ pub fn expand_back(
     lasts: &mut [u8],
 ) -> usize
     requires { ⌜ RowsGiven (now book) (now rows) n × (n ≤ 12) × (72 * n ≤ length (now out)) × (8 * n ≤ length (now widths)) × (8 * n ≤ length (now lasts)) ⌝ }
-    ensures { λ r. ⌜ Counted (now (book .entry)) (now (rows .entry)) n r × AllWords (now (book .entry)) (now (rows .entry)) n ownSlot (now (out .entry)) (now (out .exit)) × AllWidths (now (book .entry)) (now (rows .entry)) n (now (widths .entry)) (now (widths .exit)) × AllEnds (now (book .entry)) (now (rows .entry)) n (now (lasts .entry)) (now (lasts .exit)) ⌝ }
+    ensures { λ r. ⌜ GoalsCounted (now (book .entry)) (now (rows .entry)) n r × AllCodes (now (book .entry)) (now (rows .entry)) n ownSlot (now (out .entry)) (now (out .exit)) × AllWidths (now (book .entry)) (now (rows .entry)) n (now (widths .entry)) (now (widths .exit)) × AllEnds (now (book .entry)) (now (rows .entry)) n (now (lasts .entry)) (now (lasts .exit)) ⌝ }
 {
     let mut at: usize = 0;
     let mut r: usize = 0;

@@ -15,12 +15,12 @@ use Rattle.admission.specs.Admission.{HasSummary, SaysIn}
 use Rattle.admission.proofs.Standing.{standing}
 use Rattle.book_codes.specs.Question.{SomeSound}
 use Rattle.outcomes.proofs.AsRule.{width-is}
-use Rattle.checker.specs.Tests.{Admitted, Admits, AdmitsAll}
+use Rattle.checker.specs.Tests.{AdmittedNumber, Admits, AdmitsAll}
 use Rattle.bits.proofs.Laws.{exactly-yes, exactly-no}
 use Rattle.spec.proofs.Lists.Tests.{says-both}
 
 -- an admitted summary's number is one of the book's
-number-known : (b : Book) (number : ℕ) → Admitted b number → (1 ≤ number) × (number ≤ length (b .summaries))
+number-known : (b : Book) (number : ℕ) → AdmittedNumber b number → (1 ≤ number) × (number ≤ length (b .summaries))
 number-known b number a = let w = width-is (b .need) (b .summaries) number (a .0) (a .1) in (w .0, w .1)
 
 pub none-is-zero : (book : List ℕ) (number : ℕ) → number ≡ 0 → Admits book number false
@@ -38,19 +38,19 @@ admits-as has true says = record { exactly = λ b s. let u = standing has b s in
 admits-as has false says = record { exactly = λ b s. let u = standing has b s in exactly-no (λ a. Option·none-ne-some (a .0) (sym (says .is b s (u .0) (u .1)) ∙ a .1)) }
 
 -- The first rows are over admitted summaries.
-pub record AdmittedTo (book words : List ℕ) (i : ℕ) : Type 0 where
-  pub is : (b : Book) → SoundBook book b → (k : ℕ) → k < i → Admitted b (getD words (9 * k) 0)
+pub record AdmittedTo (book codes : List ℕ) (i : ℕ) : Type 0 where
+  pub is : (b : Book) → SoundBook book b → (k : ℕ) → k < i → AdmittedNumber b (getD codes (9 * k) 0)
 
-module _ {book words : List ℕ} where
-  pub admitted-start : AdmittedTo book words 0
+module _ {book codes : List ℕ} where
+  pub admitted-start : AdmittedTo book codes 0
   admitted-start = record { is = λ b s k h. absurd (omega arith) }
 
-  module _ {i : ℕ} {r : Bool} (here : Admits book (getD words (9 * i) 0) r) where
-    pub admitted-go : AdmittedTo book words i → r ≡ true → AdmittedTo book words (i + 1)
-    admitted-go so t = record { is = λ b s. below-more (λ k. Admitted b (getD words (9 * k) 0)) i (so .is b s) (here .exactly b s .0 t) }
+  module _ {i : ℕ} {r : Bool} (here : Admits book (getD codes (9 * i) 0) r) where
+    pub admitted-go : AdmittedTo book codes i → r ≡ true → AdmittedTo book codes (i + 1)
+    admitted-go so t = record { is = λ b s. below-more (λ k. AdmittedNumber b (getD codes (9 * k) 0)) i (so .is b s) (here .exactly b s .0 t) }
 
-    pub admitted-not : {count : ℕ} → i < count → r ≡ false → AdmitsAll book words count false
+    pub admitted-not : {count : ℕ} → i < count → r ≡ false → AdmitsAll book codes count false
     admitted-not h f = record { exactly = λ b s. exactly-no (λ all. says-both (here .exactly b s .1 (all i h)) f) }
 
-  pub admitted-all : {i count : ℕ} → count ≤ i → AdmittedTo book words i → AdmitsAll book words count true
+  pub admitted-all : {i count : ℕ} → count ≤ i → AdmittedTo book codes i → AdmitsAll book codes count true
   admitted-all h so = record { exactly = λ b s. exactly-yes (λ k l. so .is b s k (omega arith)) }

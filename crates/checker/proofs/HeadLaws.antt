@@ -1,4 +1,4 @@
--- Two rules have one head exactly if the words of their heads are the same.
+-- Two rules have one head exactly if the codes of their heads are the same.
 use mathlib.Core.Path.{_≡_, refl, sym, ap, ap₂, _∙_}
 use mathlib.Core.Bool.{true, false}
 use mathlib.Core.List.{List, [], _∷_, map, List·Memᴰ·head, List·Memᴰ·tail}
@@ -11,13 +11,12 @@ use Rattle.spec.specs.RuleLayout.{TermWithin, TermsWithin, Layout}
 use Rattle.codes.specs.Code.{termCode, padded}
 use Rattle.search_meaning.specs.Codings.{readTerm}
 use Rattle.search_meaning.proofs.Read.{read-term}
-use Rattle.rule_codes.proofs.WordLaws.{padded-length}
-use Rattle.rule_codes.specs.Heads.{HeadWords}
+use Rattle.codes.proofs.Padded.{padded-length, code-no-end}
+use Rattle.rule_codes.specs.Heads.{HeadCodes}
 use Rattle.checker.specs.Tests.{SameHeads}
 use Rattle.bits.proofs.Laws.{exactly-yes, exactly-no}
-use Rattle.codes.proofs.Padded.{code-no-end}
 
--- a word says which term it is, and is not that of an end
+-- a code says which term it is, and is not that of an end
 code-once : (t u : Term ℕ) → TermWithin t → TermWithin u → termCode t ≡ termCode u → t ≡ u
 code-once t u h k e = sym (read-term t h) ∙ ap readTerm e ∙ read-term u k
 
@@ -31,8 +30,8 @@ padded-once (suc n) (t ∷ ts) (u ∷ us) l m h k e = ap₂ _∷_
     (code-once t u (h t (List·Memᴰ·head refl)) (k u (List·Memᴰ·head refl)) (cc))
     (padded-once n ts us (omega arith) (omega arith) (λ x i. h x (List·Memᴰ·tail i)) (λ x i. k x (List·Memᴰ·tail i)) (cc))
 
-module _ {a b x y : List ℕ} (left : HeadWords a x) (right : HeadWords b y) where
-  -- the words are all the same
+module _ {a b x y : List ℕ} (left : HeadCodes a x) (right : HeadCodes b y) where
+  -- the codes are all the same
   pub heads-same : ((k : ℕ) → k < 8 → getD x k 0 ≡ getD y k 0) → SameHeads a b true
   heads-same all = record { exactly = λ arities most p l known few q o. exactly-yes (once arities most p l known few q o) }
     where

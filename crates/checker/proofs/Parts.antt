@@ -17,7 +17,7 @@ use Rattle.spec.proofs.Bytes.BookPasses.{question-reads}
 use Rattle.rule_codes.specs.Promises.{GoalCount}
 use Rattle.outcomes.proofs.Rooms.{there-long}
 use Rattle.book_codes.specs.Question.{SomeSound}
-use Rattle.book_codes.specs.FewRows.{FewOf, Few}
+use Rattle.book_codes.specs.FewRows.{FewRowsOf, FewRows}
 use Rattle.witness_check.specs.WayThere.Confirms.{ThereConfirms}
 use Rattle.witness_check.specs.WayBack.Confirms.{BackConfirms}
 use Rattle.bits.proofs.Laws.{exactly-no}
@@ -26,25 +26,25 @@ use Rattle.checker.specs.Steps.{QuestionGoals, Witness, Confirms}
 pub goals-are : {book body : List ℕ} {n : ℕ} → body ≡ partAt book 1 → GoalCount body n → QuestionGoals book n
 goals-are {book} part g = record { is = λ b s. g .is (partAt book 0) questionMost (b .question) (rw part (question-reads s)) }
 
-pub few-sound : {book rows : List ℕ} {k : ℕ} → Few book rows k → SomeSound book
+pub few-sound : {book rows : List ℕ} {k : ℕ} → FewRows book rows k → SomeSound book
 few-sound w = record { value = w .value; sound = w .is .rows-of .sound }
 
 module _ {book rows : List ℕ} {k : ℕ} {n : ℕ} (goals : QuestionGoals book n) where
-  pub goals-few : Few book rows k → n ≤ 12
+  pub goals-few : FewRows book rows k → n ≤ 12
   goals-few w = let s = w .is .rows-of .sound in omega (arith, goals .is (w .value) s, s .value .question .within .few)
 
   module _ {witness : List ℕ} where
     -- the first part is as long as it has to be
-    first-long : (b : Book) (l : List (Subgoal (Term ℕ))) → FewOf book rows k b l → (w : Witness b l witness) → length (w .there) ≡ 2 * n
+    first-long : (b : Book) (l : List (Subgoal (Term ℕ))) → FewRowsOf book rows k b l → (w : Witness b l witness) → length (w .there) ≡ 2 * n
     first-long b l t w = there-long (admittedOf b) (b .question) (rewriting (b .question) l) (w .there) (w .goes) ∙ ap (λ m. 2 * m) (sym (goals .is b (t .rows-of .sound)))
 
     pub too-short : length witness < 2 * n → Confirms book rows k witness false
     too-short h = record { exactly = λ b l t. exactly-no (λ w. omega (arith, first-long b l t w, ap length (w .whole), length-append (w .there) (w .back))) }
 
-    first-is : (b : Book) (l : List (Subgoal (Term ℕ))) → FewOf book rows k b l → (w : Witness b l witness) → take (2 * n) witness ≡ w .there
+    first-is : (b : Book) (l : List (Subgoal (Term ℕ))) → FewRowsOf book rows k b l → (w : Witness b l witness) → take (2 * n) witness ≡ w .there
     first-is b l t w = ap (take (2 * n)) (w .whole) ∙ take-at (w .there) (w .back) (2 * n) (first-long b l t w)
 
-    rest-is : (b : Book) (l : List (Subgoal (Term ℕ))) → FewOf book rows k b l → (w : Witness b l witness) → drop (2 * n) witness ≡ w .back
+    rest-is : (b : Book) (l : List (Subgoal (Term ℕ))) → FewRowsOf book rows k b l → (w : Witness b l witness) → drop (2 * n) witness ≡ w .back
     rest-is b l t w = ap (drop (2 * n)) (w .whole) ∙ drop-at (w .there) (w .back) (2 * n) (first-long b l t w)
 
     module _ {first : Bool} (there : ThereConfirms book rows k (take (2 * n) witness) first) where

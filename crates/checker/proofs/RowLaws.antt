@@ -17,24 +17,24 @@ use Rattle.spec.proofs.Bytes.RuleLaws.{layout-unique}
 use Rattle.spec.proofs.Bytes.BookPasses.{question-reads}
 use Rattle.spec.proofs.Lists.Places.{place-of, getD-in}
 use Rattle.choice_theory.specs.Numbered.{nothing}
-use Rattle.codes.specs.Code.{termCode, wordsOf}
-use Rattle.codes.proofs.Padded.{words-length}
-use Rattle.search_meaning.proofs.AtWords.{relation-at}
+use Rattle.codes.specs.Code.{termCode, codesOf}
+use Rattle.codes.proofs.Padded.{codes-length}
+use Rattle.search_meaning.proofs.AtCodes.{relation-at}
 use Rattle.rule_codes.specs.Codes.{atFront}
 use Rattle.rule_codes.specs.Laid.{LaidFor}
-use Rattle.rule_codes.specs.Promises.{BodyWords}
+use Rattle.rule_codes.specs.Promises.{BodyCodes}
 use Rattle.rule_codes.proofs.Stores.{front-length}
 use Rattle.book_codes.specs.Question.{SomeSound}
 use Rattle.spec.specs.Truth.{RewritingRule}
 use Rattle.outcomes.proofs.AsRule.{width-is, laid-out}
 use Rattle.checker.specs.Lengths.{HeadsAre}
 use Rattle.checker.specs.Tests.{LaidOut, SameHeads, AdmitsAll}
-use Rattle.checker.specs.Proposed.{empty, noRows, Proposed, Given}
+use Rattle.checker.specs.Proposed.{empty, noRows, Proposed, RuleRead}
 use Rattle.spec.proofs.Lists.Tests.{says-both}
 
 -- nothing is proposed, for whatever reason
 pub proposed-none : {book rewriting : List ℕ} → ((b : Book) → SoundBook book b → (rule : Rule ℕ) → RewritingRule b rule → ruleBytes rule ≡ rewriting → ⊥) → Proposed book rewriting noRows
-proposed-none never = record { none = λ b s z. record { none = never b s; words = refl }; some = λ b s h. absurd (omega arith) }
+proposed-none never = record { none = λ b s z. record { none = never b s; codes = refl }; some = λ b s h. absurd (omega arith) }
 
 module _ {book rewriting lengths : List ℕ} (heads : HeadsAre book lengths) where
   -- a rewriting is laid out over the lengths
@@ -51,40 +51,40 @@ module _ {book rewriting lengths : List ℕ} (heads : HeadsAre book lengths) whe
     pub none-headed : q ≡ false → Proposed book rewriting noRows
     none-headed f = proposed-none (λ b s rule is written. says-both (same-head b s rule (over-lengths b s rule is written) .1 (is .head)) f)
 
-    pub rows-given : SomeSound book → {r : Bool} → LaidOut lengths rewriting r → r ≡ true → q ≡ true → Given book rewriting lengths
+    pub rows-given : SomeSound book → {r : Bool} → LaidOut lengths rewriting r → r ≡ true → q ≡ true → RuleRead book rewriting lengths
     rows-given w l t u = let o = l .exactly .0 t in record { sound = w; heads = heads; rule = o .0; layout = o .1; same = λ b s. same-head b s (o .0) (o .1) .0 u }
 
-module _ {book rewriting lengths : List ℕ} (g : Given book rewriting lengths) where
+module _ {book rewriting lengths : List ℕ} (g : RuleRead book rewriting lengths) where
   pub rows-room : (each area : ℕ) → ((n : ℕ) → n ≤ 12 → each * n ≤ area) → LaidFor lengths rewriting each area
   rows-room each area room = record { most = questionMost; rule = g .rule; layout = g .layout; room = room (length (g .rule .body)) (g .layout .within .few) }
 
-  module _ {words : List ℕ} {n : ℕ} (body : BodyWords lengths rewriting termCode empty words n) where
+  module _ {codes : List ℕ} {n : ℕ} (body : BodyCodes lengths rewriting termCode empty codes n) where
     count-is : n ≡ length (g .rule .body)
     count-is = body .count questionMost (g .rule) (g .layout)
 
-    words-are : words ≡ atFront (wordsOf termCode (g .rule .body)) empty
-    words-are = body .words questionMost (g .rule) (g .layout)
+    codes-are : codes ≡ atFront (codesOf termCode (g .rule .body)) empty
+    codes-are = body .codes questionMost (g .rule) (g .layout)
 
-    pub words-there : 9 * n ≤ length words
-    words-there =
+    pub codes-there : 9 * n ≤ length codes
+    codes-there =
         let few = g .layout .within .few in
-        let all = words-length termCode (g .rule .body) in
-        omega (arith, count-is, ap length words-are, front-length (wordsOf termCode (g .rule .body)) empty (omega arith))
+        let all = codes-length termCode (g .rule .body) in
+        omega (arith, count-is, ap length codes-are, front-length (codesOf termCode (g .rule .body)) empty (omega arith))
 
-    -- the first word of a row is its summary's number
-    number-at : (k : ℕ) → k < length (g .rule .body) → getD words (9 * k) 0 ≡ getD (g .rule .body) k nothing .relation
+    -- the first code of a row is its summary's number
+    number-at : (k : ℕ) → k < length (g .rule .body) → getD codes (9 * k) 0 ≡ getD (g .rule .body) k nothing .relation
     number-at k h =
-        ap (λ l. getD l (9 * k) 0) words-are
-        ∙ List·getD-append (wordsOf termCode (g .rule .body)) (drop (length (wordsOf termCode (g .rule .body))) empty) 0 (9 * k) (omega (arith, words-length termCode (g .rule .body)))
+        ap (λ l. getD l (9 * k) 0) codes-are
+        ∙ List·getD-append (codesOf termCode (g .rule .body)) (drop (length (codesOf termCode (g .rule .body))) empty) 0 (9 * k) (omega (arith, codes-length termCode (g .rule .body)))
         ∙ relation-at termCode (g .rule .body) k h
 
-    module _ {r : Bool} (says : AdmitsAll book words n r) where
+    module _ {r : Bool} (says : AdmitsAll book codes n r) where
       module _ (t : r ≡ true) where
         over-all : (b : Book) → SoundBook book b → OverAll (admittedOf b) (g .rule)
         over-all b s x m =
             let p = place-of nothing m in
             let a = says .exactly b s .0 t (p .0) (omega (arith, count-is, p .1)) in
-            let number : getD words (9 * p .0) 0 ≡ x .relation = number-at (p .0) (p .1) ∙ ap (λ y. y .relation) (p .2) in
+            let number : getD codes (9 * p .0) 0 ≡ x .relation = number-at (p .0) (p .1) ∙ ap (λ y. y .relation) (p .2) in
             let admitted : summary (admittedOf b) (x .relation) ≡ some (a .0) = subst (λ k. summary (admittedOf b) k ≡ some (a .0)) number (a .1) in
             record {
               rule = a .0;
@@ -92,7 +92,7 @@ module _ {book rewriting lengths : List ℕ} (g : Given book rewriting lengths) 
               long = g .layout .within .fit x m .long ∙ ap (λ l. getD l (x .relation) 0) (g .heads .is b s) ∙ width-is (b .need) (b .summaries) (x .relation) (a .0) admitted .2;
             }
 
-        pub rows-proposed : Proposed book rewriting record { count = n; words = words }
+        pub rows-proposed : Proposed book rewriting record { count = n; codes = codes }
         rows-proposed = record {
           none = λ b s z. absurd (let some = g .layout .within .some in omega (arith, count-is));
           some = λ b s h. record {
@@ -100,7 +100,7 @@ module _ {book rewriting lengths : List ℕ} (g : Given book rewriting lengths) 
             is = record { some = g .layout .within .some; few = g .layout .within .few; over = over-all b s; within = g .layout .within .body; head = g .same b s };
             written = g .layout .written;
             count = count-is;
-            words = words-are;
+            codes = codes-are;
           };
         }
 

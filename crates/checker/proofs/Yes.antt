@@ -13,14 +13,14 @@ use Rattle.spec.specs.BookLayout.{SoundBook, questionMost}
 use Rattle.spec.specs.declared.Reason.{Reason}
 use Rattle.spec.proofs.Bytes.BookUnique.{book-unique}
 use Rattle.spec.proofs.Bytes.Refused.{sound-unrefused}
-use Rattle.codes.specs.Code.{termCode, wordsOf}
-use Rattle.rule_codes.proofs.WordLaws.{words-length}
+use Rattle.codes.specs.Code.{termCode, codesOf}
+use Rattle.codes.proofs.Padded.{codes-length}
 use Rattle.book_codes.specs.Question.{SomeSound}
 use Rattle.rule_codes.proofs.Stores.{front-again}
 use Rattle.spec.specs.Reading.{ReadingSays}
 use Rattle.spec.specs.declared.Reading.{Reading}
 use Rattle.spec.specs.declared.Reading.the-variants.{Sound, Refused}
-use Rattle.book_codes.specs.FewRows.{FewOf, Few}
+use Rattle.book_codes.specs.FewRows.{FewRowsOf, FewRows}
 use Rattle.spec.specs.Truth.{RewritingRule, Truth, Checks}
 use Rattle.outcomes.proofs.AsRule.{rule-once}
 use Rattle.checker.specs.Proposed.{IsProposed, Proposed, empty}
@@ -43,26 +43,26 @@ module _ {book bytes : List ℕ} {r : Proposal} (p : Proposed book bytes r) wher
     abbrev q : Rule ℕ
     q = b .question
 
-    few-of : FewOf book (r .words) (r .count) b (it .rule .body)
+    few-of : FewRowsOf book (r .codes) (r .count) b (it .rule .body)
     few-of = record {
       rows-of = record {
         sound = w .sound;
         within = record { over = λ g m. let o = it .is .over g m in (o .rule, o .admitted); within = it .is .within };
         long = λ g m. let o = it .is .over g m in o .long ∙ sym (ap (λ x. length (orEmpty x .head)) (o .admitted));
         count = sym (it .count);
-        words = front-again (wordsOf termCode (it .rule .body)) empty (r .words) (9 * r .count) (it .words) (words-length termCode (it .rule .body) ∙ ap (λ n. 9 * n) (sym (it .count)));
+        codes = front-again (codesOf termCode (it .rule .body)) empty (r .codes) (9 * r .count) (it .codes) (codes-length termCode (it .rule .body) ∙ ap (λ n. 9 * n) (sym (it .count)));
       };
       few = let f = it .is .few in omega (arith, it .count);
     }
 
-    pub few : Few book (r .words) (r .count)
+    pub few : FewRows book (r .codes) (r .count)
     few = record { value = b; list = it .rule .body; is = few-of }
 
     -- a rule with the question's head is its body read as a rewriting
     as-rewriting : it .rule ≡ rewriting q (it .rule .body)
     as-rewriting = λ i. record { head = it .is .head i; body = it .rule .body }
 
-    module _ {witness : List ℕ} {answer : Bool} (c : Confirms book (r .words) (r .count) witness answer) where
+    module _ {witness : List ℕ} {answer : Bool} (c : Confirms book (r .codes) (r .count) witness answer) where
       truth : Witness b (it .rule .body) witness → Truth book bytes witness
       truth y = record {
         value = b;

@@ -10,7 +10,7 @@ use Rattle.spec.specs.Summaries.{rewriting}
 use Rattle.spec.specs.Answer.{There, Back}
 use Rattle.spec.specs.Book.{Book, admittedOf}
 use Rattle.spec.specs.BookLayout.{SoundBook}
-use Rattle.book_codes.specs.FewRows.{FewOf}
+use Rattle.book_codes.specs.FewRows.{FewRowsOf}
 
 pub record QuestionGoals (book : List ℕ) (n : ℕ) : Type 0 where
   pub is : (b : Book) → SoundBook book b → n ≡ length (b .question .body)
@@ -24,4 +24,4 @@ pub record Witness (b : Book) (l : List (Subgoal (Term ℕ))) (witness : List �
   pub returns : Back (admittedOf b) (b .question) (rewriting (b .question) l) back
 
 pub record Confirms (book rows : List ℕ) (k : ℕ) (witness : List ℕ) (answer : Bool) : Type 0 where
-  pub exactly : (b : Book) (l : List (Subgoal (Term ℕ))) → FewOf book rows k b l → (answer ≡ true) ↔ Witness b l witness
+  pub exactly : (b : Book) (l : List (Subgoal (Term ℕ))) → FewRowsOf book rows k b l → (answer ≡ true) ↔ Witness b l witness

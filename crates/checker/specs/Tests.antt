@@ -21,12 +21,12 @@ pub record SameHeads (a b : List ℕ) (r : Bool) : Type 0 where
   pub exactly : (arities : List ℕ) (most : ℕ) (p : Rule ℕ) → Layout arities most a p → (known : List ℕ) (few : ℕ) (q : Rule ℕ) → Layout known few b q → (r ≡ true) ↔ (p .head ≡ q .head)
 
 -- The number is that of an admitted summary.
-abbrev pub Admitted : Book → ℕ → Type 0
-Admitted b number = (v : Rule ℕ) × (summary (admittedOf b) number ≡ some v)
+abbrev pub AdmittedNumber : Book → ℕ → Type 0
+AdmittedNumber b number = (v : Rule ℕ) × (summary (admittedOf b) number ≡ some v)
 
 pub record Admits (book : List ℕ) (number : ℕ) (r : Bool) : Type 0 where
-  pub exactly : (b : Book) → SoundBook book b → (r ≡ true) ↔ Admitted b number
+  pub exactly : (b : Book) → SoundBook book b → (r ≡ true) ↔ AdmittedNumber b number
 
--- "over admitted summaries": of so many rows, nine words each, the first word is such a number
-pub record AdmitsAll (book words : List ℕ) (count : ℕ) (r : Bool) : Type 0 where
-  pub exactly : (b : Book) → SoundBook book b → (r ≡ true) ↔ ((i : ℕ) → i < count → Admitted b (getD words (9 * i) 0))
+-- "over admitted summaries": of so many rows, nine codes each, the first code is such a number
+pub record AdmitsAll (book codes : List ℕ) (count : ℕ) (r : Bool) : Type 0 where
+  pub exactly : (b : Book) → SoundBook book b → (r ≡ true) ↔ ((i : ℕ) → i < count → AdmittedNumber b (getD codes (9 * i) 0))

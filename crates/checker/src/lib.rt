@@ -1,6 +1,6 @@
 // The checker: a book, a rewriting and a witness, each as bytes. It writes nothing, and searches for nothing.
 ghost use Rattle.book_codes.specs.Question.{SomeSound};
-ghost use Rattle.book_codes.specs.FewRows.{Few};
+ghost use Rattle.book_codes.specs.FewRows.{FewRows};
 ghost use Rattle.spec.specs.Truth.{Checks};
 ghost use Rattle.checker.specs.Steps.{QuestionGoals, Confirms};
 
@@ -26,7 +26,7 @@ fn question_goals(book: &[u8]) -> usize
 
 // The witness of k rows: "per question subgoal, two bytes", and behind them the way back.
 fn confirms(book: &[u8], rows: &[u64], k: usize, witness: &[u8]) -> bool
-    requires { ⌜ Few (now book) (now rows) k ⌝ }
+    requires { ⌜ FewRows (now book) (now rows) k ⌝ }
     ensures { λ r. ⌜ Confirms (now (book .entry)) (now (rows .entry)) k (now (witness .entry)) r ⌝ }
 {
     let middle = 2 * question_goals(book);
@@ -48,8 +48,8 @@ fn check_sound(book: &[u8], rewriting: &[u8], witness: &[u8]) -> bool
     if proposal.count == 0 {
         return false; // no rewriting of this book's question
     }
-    let words = proposal.words;
-    confirms(book, &words, proposal.count, witness)
+    let codes = proposal.codes;
+    confirms(book, &codes, proposal.count, witness)
 }
 
 // Every three of bytes: yes exactly if the rewriting is one of the book's question and the witness is its two mappings.

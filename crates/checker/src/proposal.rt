@@ -1,7 +1,7 @@
 // The rewriting that the checker is given, read as rows over the admitted summaries of a sound book.
 ghost use mathlib.Core.Path.{_≡_};
 ghost use Rattle.book_codes.specs.Question.{SomeSound};
-ghost use Rattle.checker.specs.Proposed.{noRows, Given, Proposed};
+ghost use Rattle.checker.specs.Proposed.{noRows, RuleRead, Proposed};
 ghost use Rattle.checker.specs.Lengths.{HeadsAre};
 use crate::head_lengths::head_lengths;
 use crate::tests::all_admitted;
@@ -10,13 +10,13 @@ use crate::tests::same_heads;
 use books::parts::part_of;
 use codes::QUESTION_CODES;
 use contents::fields::count_of;
-use rule_codes::bodies::term_words;
+use rule_codes::bodies::term_codes;
 use spec::QUESTION_GOALS;
 
-// The rewriting's rows, so many, nine words each at the front and zeros behind them; or none.
+// The rewriting's rows, so many, nine codes each at the front and zeros behind them; or none.
 pub struct Proposal {
     pub count: usize,
-    pub words: [u64; QUESTION_CODES],
+    pub codes: [u64; QUESTION_CODES],
 }
 
 fn none() -> Proposal
@@ -24,20 +24,20 @@ fn none() -> Proposal
 {
     Proposal {
         count: 0,
-        words: [0u64; QUESTION_CODES],
+        codes: [0u64; QUESTION_CODES],
     }
 }
 
 // The rows of a rule that has the question's head: none if one of them is over a summary that is left out, or over none.
 fn read_rows(book: &[u8], rewriting: &[u8], lengths: &[u8]) -> Proposal
-    requires { ⌜ Given (now book) (now rewriting) (now lengths) ⌝ }
+    requires { ⌜ RuleRead (now book) (now rewriting) (now lengths) ⌝ }
     ensures { λ r. ⌜ Proposed (now (book .entry)) (now (rewriting .entry)) r ⌝ }
 {
-    let mut words = [0u64; QUESTION_CODES];
+    let mut codes = [0u64; QUESTION_CODES];
     let mut widths = [0u8; QUESTION_GOALS];
-    let count = term_words(rewriting, lengths, &mut words, &mut widths);
-    if all_admitted(book, &words, count) {
-        return Proposal { count, words };
+    let count = term_codes(rewriting, lengths, &mut codes, &mut widths);
+    if all_admitted(book, &codes, count) {
+        return Proposal { count, codes };
     }
     none()
 }

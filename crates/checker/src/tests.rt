@@ -7,7 +7,7 @@ ghost use Rattle.checker.specs.Tests.{LaidOut, SameHeads, Admits, Admits
 use admission::summaries::is_in;
 use codes::SUBGOAL_CODES;
 use contents::fields::count_of;
-use rule_codes::heads::head_words;
+use rule_codes::heads::head_codes;
 use rules::Verdict;
 use rules::judge;
 use spec::MOST_HEAD;
@@ -25,13 +25,13 @@ pub(crate) fn is_laid_out(rewriting: &[u8], lengths: &[u8]) -> bool
     }
 }
 
-// Whether two rules have one head: the words of its terms say which it is.
+// Whether two rules have one head: the codes of its terms say which it is.
 pub(crate) fn same_heads(a: &[u8], b: &[u8]) -> bool
     requires { ⌜ Laid (now a) × Laid (now b) ⌝ }
     ensures { λ r. ⌜ SameHeads (now (a .entry)) (now (b .entry)) r ⌝ }
 {
-    let x = head_words(a);
-    let y = head_words(b);
+    let x = head_codes(a);
+    let y = head_codes(b);
     let mut k: usize = 0;
     while k < MOST_HEAD {
         if x[k] != y[k] {
@@ -57,13 +57,13 @@ fn admits(book: &[u8], number: usize) -> bool
 }
 
 // Whether each of the first `count` rows is over an admitted summary.
-pub(crate) fn all_admitted(book: &[u8], words: &[u64], count: usize) -> bool
-    requires { ⌜ SomeSound (now book) × (9 * count ≤ length (now words)) ⌝ }
-    ensures { λ r. ⌜ AdmitsAll (now (book .entry)) (now (words .entry)) count r ⌝ }
+pub(crate) fn all_admitted(book: &[u8], codes: &[u64], count: usize) -> bool
+    requires { ⌜ SomeSound (now book) × (9 * count ≤ length (now codes)) ⌝ }
+    ensures { λ r. ⌜ AdmitsAll (now (book .entry)) (now (codes .entry)) count r ⌝ }
 {
     let mut i: usize = 0;
     while i < count {
-        if !admits(book, words[SUBGOAL_CODES * i] as usize) {
+        if !admits(book, codes[SUBGOAL_CODES * i] as usize) {
             return false;
         }
         i += 1;

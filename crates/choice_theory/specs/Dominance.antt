@@ -14,7 +14,7 @@ use Rattle.spec.specs.Summaries.{Summaries, Own, fresh, kept, inPlace}
 use Rattle.spec.proofs.Lists.Tests.{passes, fails, any, any-sound, any-complete}
 use Rattle.containment.proofs.Carry.{subgoal-same}
 use Rattle.containment.proofs.Expand.{extended}
-use Rattle.choice_theory.specs.Numbered.{Rows, nothing, rowAt, Lands, WorksOn}
+use Rattle.choice_theory.specs.Numbered.{RowList, nothing, rowAt, InChosenUse, WorksOn}
 use Rattle.choice_theory.specs.Lists.{getD-in, in-getD, without, without-in, without-out, without-few}
 use Rattle.choice_theory.specs.Moved.{same-use}
 use Rattle.choice_theory.specs.Works.{moved}
@@ -23,7 +23,7 @@ use Rattle.choice_theory.specs.Sets.{can-more}
 use Rattle.choice_theory.specs.Dominates.{Dominates}
 
 -- Dominance by places in the two uses.
-pub dominates-at : (s : Summaries) (rows : Rows) (d r : ℕ) (value : ℕ → Term (Own ℕ))
+pub dominates-at : (s : Summaries) (rows : RowList) (d r : ℕ) (value : ℕ → Term (Own ℕ))
     → ((i : ℕ) → i < length (inPlace s r (rowAt rows r)) → (k : ℕ) × (k < length (inPlace s d (rowAt rows d)))
     × (each (becomes con (extended kept (λ u. value))) (getD (inPlace s r (rowAt rows r)) i nothing) ≡ getD (inPlace s d (rowAt rows d)) k nothing))
     → Dominates s rows d r
@@ -34,7 +34,7 @@ dominates-at s rows d r value h = record {
       Memᴰ·cast (ap (each (becomes con (extended kept (λ u. value)))) (sym (i .2)) ∙ k .2) (getD-in nothing (inPlace s d (rowAt rows d)) (k .0) (k .1));
 }
 
-module _ (s : Summaries) (q : Rule ℕ) (rows : Rows) (d r : ℕ) (dom : Dominates s rows d r) (there : d < length rows) where
+module _ (s : Summaries) (q : Rule ℕ) (rows : RowList) (d r : ℕ) (dom : Dominates s rows d r) (there : d < length rows) where
   -- Row r's own variables go where row d stands for them, those of other rows stay.
   abbrev ξ : Own ℕ → Term (Own ℕ)
   ξ = extended kept (λ u x. cond (eqb u r) (dom .value x) (var (fresh u x)))
@@ -49,7 +49,7 @@ module _ (s : Summaries) (q : Rule ℕ) (rows : Rows) (d r : ℕ) (dom : Dominat
   pub works-without : {Chosen Fewer : ℕ → Type 0} → Fewer d → ((u : ℕ) → u < length rows → (u ≡ r → ⊥) → Chosen u → Fewer u) → WorksOn s q rows Chosen → WorksOn s q rows Fewer
   works-without {Chosen} {Fewer} has rest = moved q ξ (λ x. refl) (λ c l. go c l (ℕ-discrete (l .row) r))
     where
-      go : (c : Subgoal (Term (Own ℕ))) (l : Lands s rows Chosen c) → Dec (l .row ≡ r) → Lands s rows Fewer (each (becomes con ξ) c)
+      go : (c : Subgoal (Term (Own ℕ))) (l : InChosenUse s rows Chosen c) → Dec (l .row ≡ r) → InChosenUse s rows Fewer (each (becomes con ξ) c)
       go c l (yes e) = record { row = d; within = there; chosen = has; inside = in-r c (subst (λ u. c ∈ inPlace s u (rowAt rows u)) e (l .inside)) }
       go c l (no n) = record { row = l .row; within = l .within; chosen = rest (l .row) (l .within) n (l .chosen); inside = in-other (l .row) n c (l .inside) }
 

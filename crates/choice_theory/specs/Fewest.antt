@@ -13,14 +13,14 @@ use Rattle.spec.specs.Answer.{Rewrites}
 use Rattle.spec.proofs.Lists.Enumerate.{Enumerates}
 use Rattle.spec.proofs.Lists.Counted.{counted, counted-in, counted-out, counted-rising}
 use Rattle.containment.proofs.Normal.{shorten}
-use Rattle.choice_theory.specs.Numbered.{Rows, rowAt, WorksOn}
+use Rattle.choice_theory.specs.Numbered.{RowList, rowAt, WorksOn}
 use Rattle.choice_theory.specs.Works.{works-more}
 use Rattle.choice_theory.specs.Rewritten.{works-rewrites, rewrites-numbers}
 use Rattle.choice_theory.specs.Can.{Any, Can}
-use Rattle.choice_theory.specs.Going.{AtLeast, Going}
+use Rattle.choice_theory.specs.Going.{AtLeast, PassState}
 use Rattle.choice_theory.specs.Frame.{going-works}
 
-module _ (s : Summaries) (q : Rule ℕ) (rows : Rows) where
+module _ (s : Summaries) (q : Rule ℕ) (rows : RowList) where
   pub at-least-start : AtLeast s q rows 0
   at-least-start ns n w = omega arith
 
@@ -34,29 +34,29 @@ module _ (s : Summaries) (q : Rule ℕ) (rows : Rows) where
 
   module _ (all : Enumerates (SummaryRow s q) RowBefore rows) where
     -- Where a list works, no more rows are needed than the question has subgoals. So none works if more are needed.
-    pub at-least-few : (k : ℕ) → AtLeast s q rows k → (l : Rows) → Rewrites s q l → k ≤ length (q .body)
+    pub at-least-few : (k : ℕ) → AtLeast s q rows k → (l : RowList) → Rewrites s q l → k ≤ length (q .body)
     at-least-few k least l r =
         let o = shorten s q l r .ordered in
         let w = rewrites-numbers s q rows all (o .list) (o .rewrites) in
         omega (arith, o .few, least (w .0) (w .1) (w .3), length-map (w .0) (rowAt rows), ap length (w .2))
 
-    pub at-least-none : (k : ℕ) → AtLeast s q rows k → length (q .body) < k → (l : Rows) → Rewrites s q l → ⊥
+    pub at-least-none : (k : ℕ) → AtLeast s q rows k → length (q .body) < k → (l : RowList) → Rewrites s q l → ⊥
     at-least-none k least many l r = omega (arith, at-least-few k least l r)
 
     -- The rows to take are no more than the question's subgoals.
-    pub going-few : {p : List ℕ} {from left : ℕ} → Going s q rows p from left → length p + left ≤ length (q .body)
+    pub going-few : {p : List ℕ} {from left : ℕ} → PassState s q rows p from left → length p + left ≤ length (q .body)
     going-few {p} {from} {left} g =
         let w = going-works s q rows g in
         at-least-few (length p + left) (g .fewest) _ (works-rewrites s q rows all (p ++ g .can .more) (w .1) (w .0))
 
     -- The list of all rows decides whether there is an equivalent list: refusal 10.
-    pub all-works : WorksOn s q rows Any ↔ ((l : Rows) × Rewrites s q l)
+    pub all-works : WorksOn s q rows Any ↔ ((l : RowList) × Rewrites s q l)
     all-works = (some-list, λ w. works-more s q rows (λ u h i. tt) (rewrites-numbers s q rows all (w .0) (w .1) .3))
       where
         every : List ℕ
         every = counted 0 (length rows)
 
-        some-list : WorksOn s q rows Any → (l : Rows) × Rewrites s q l
+        some-list : WorksOn s q rows Any → (l : RowList) × Rewrites s q l
         some-list w = (
           _,
           works-rewrites s q rows all every

@@ -10,7 +10,7 @@ use Rattle.spec.specs.Summaries.{Summaries}
 use Rattle.spec.proofs.Lists.Strict.{numberOrder}
 use Rattle.spec.proofs.Lists.Sorted.{sorted, sorted-in, sorted-out, sorted-rising}
 use Rattle.containment.proofs.Normal.{sorted-few}
-use Rattle.choice_theory.specs.Numbered.{Rows}
+use Rattle.choice_theory.specs.Numbered.{RowList}
 use Rattle.choice_theory.specs.Works.{works-more}
 use Rattle.choice_theory.specs.Can.{Can, CanBy}
 
@@ -52,7 +52,7 @@ module _ {n : ℕ} {used may : ℕ → Type 0} {p : List ℕ} {r : ℕ} (m : Mar
     may-out = λ u h i. ms u h .1 (m .may-out u h (omega arith), λ e. omega arith);
   }
 
-module _ (s : Summaries) (q : Rule ℕ) (rows : Rows) {used may : ℕ → Type 0} {p : List ℕ} {from : ℕ} (m : Marked (length rows) used may p from) (b : ℕ) where
+module _ (s : Summaries) (q : Rule ℕ) (rows : RowList) {used may : ℕ → Type 0} {p : List ℕ} {from : ℕ} (m : Marked (length rows) used may p from) (b : ℕ) where
   by-can : CanBy s q rows used may b → Can s q rows p from b
   by-can c = record {
     more = sorted numberOrder (c .more);

@@ -13,12 +13,12 @@ use Rattle.spec.proofs.Decided.Orders.{rowOrder}
 use Rattle.spec.proofs.Lists.Rising.{Rising, rising-map, rising-ascending, ascending-rising}
 use Rattle.spec.proofs.Lists.Enumerate.{Enumerates}
 use Rattle.containment.proofs.ListsOfRows.{AllRows, rows-back}
-use Rattle.choice_theory.specs.Numbered.{Rows, nothing, rowAt, rowsAt, Numbers, In, WorksOn}
+use Rattle.choice_theory.specs.Numbered.{RowList, nothing, rowAt, rowsAt, Numbers, InRowList, WorksOn}
 use Rattle.choice_theory.specs.Lists.{getD-in, in-getD, rising-getD}
 use Rattle.choice_theory.specs.Works.{works-maps, maps-works}
 
 -- Rows that ascend with their numbers.
-module _ (rows : Rows) (rises : Rising RowBefore rows) where
+module _ (rows : RowList) (rises : Rising RowBefore rows) where
   later-row : (u v : ℕ) → u < length rows → RowBefore (rowAt rows u) (rowAt rows v) → u < v
   later-row u v h b = go (numbers-compare u v)
     where
@@ -38,7 +38,7 @@ module _ (rows : Rows) (rises : Rising RowBefore rows) where
   rowsAt-before (n ∷ ns) (m ∷ ms) w (inr h) = inr (ap (rowAt rows) (h .0), rowsAt-before ns ms (λ u i. w u (List·Memᴰ·tail i)) (h .1))
 
   -- Each ascending list of some of the rows has its numbers.
-  pub numbers-of : (l : Rows) → Rising RowBefore l → ((g : Subgoal (Term ℕ)) → g ∈ l → g ∈ rows) → (ns : List ℕ) × Numbers (length rows) ns × (rowsAt rows ns ≡ l)
+  pub numbers-of : (l : RowList) → Rising RowBefore l → ((g : Subgoal (Term ℕ)) → g ∈ l → g ∈ rows) → (ns : List ℕ) × Numbers (length rows) ns × (rowsAt rows ns ≡ l)
   numbers-of [] r h = ([], record { rising = tt; within = λ u m. absurd (List·Memᴰ·not-nil m) }, refl)
   numbers-of (g ∷ l) r h = go (in-getD nothing rows (h g (List·Memᴰ·head refl))) (numbers-of l (r .1) (λ b i. h b (List·Memᴰ·tail i)))
     where
@@ -52,11 +52,11 @@ module _ (rows : Rows) (rises : Rising RowBefore rows) where
           within u (List·Memᴰ·head e) = rw e (w .1)
           within u (List·Memᴰ·tail i) = rest .1 .within u i
 
-module _ (s : Summaries) (q : Rule ℕ) (rows : Rows) (all : Enumerates (SummaryRow s q) RowBefore rows) where
+module _ (s : Summaries) (q : Rule ℕ) (rows : RowList) (all : Enumerates (SummaryRow s q) RowBefore rows) where
   pub rowsAt-rows : (ns : List ℕ) → ((u : ℕ) → u ∈ ns → u < length rows) → AllRows s q (rowsAt rows ns)
   rowsAt-rows ns within g m = let w = Memᴰ·of-map (rowAt rows) ns m in all .sound g (Memᴰ·cast (sym (w .2)) (getD-in nothing rows (w .0) (within (w .0) (w .1))))
 
-  pub works-rewrites : (ns : List ℕ) → Numbers (length rows) ns → WorksOn s q rows (In ns) → Rewrites s q (rowsAt rows ns)
+  pub works-rewrites : (ns : List ℕ) → Numbers (length rows) ns → WorksOn s q rows (InRowList ns) → Rewrites s q (rowsAt rows ns)
   works-rewrites ns n w = record {
     rows = rowsAt-rows ns (n .within);
     ascending = rising-ascending (rowsAt rows ns) (rowsAt-rising rows (all .rising) ns n);
@@ -64,11 +64,11 @@ module _ (s : Summaries) (q : Rule ℕ) (rows : Rows) (all : Enumerates (Summary
   }
 
   -- Ascending numbers work exactly if their rows are an equivalent list.
-  pub rewrites-is : (ns : List ℕ) → Numbers (length rows) ns → WorksOn s q rows (In ns) ↔ Rewrites s q (rowsAt rows ns)
+  pub rewrites-is : (ns : List ℕ) → Numbers (length rows) ns → WorksOn s q rows (InRowList ns) ↔ Rewrites s q (rowsAt rows ns)
   rewrites-is ns n = (works-rewrites ns n, λ r. maps-works s q rows ns (n .within) (r .equivalent .there))
 
   -- Each equivalent list has its numbers, and they work.
-  pub rewrites-numbers : (l : Rows) → Rewrites s q l → (ns : List ℕ) × Numbers (length rows) ns × (rowsAt rows ns ≡ l) × WorksOn s q rows (In ns)
+  pub rewrites-numbers : (l : RowList) → Rewrites s q l → (ns : List ℕ) × Numbers (length rows) ns × (rowsAt rows ns ≡ l) × WorksOn s q rows (InRowList ns)
   rewrites-numbers l r =
       let w = numbers-of rows (all .rising) l (ascending-rising l (r .ascending)) (λ g i. all .complete g (r .rows g i)) in
       (w .0, w .1, w .2, rewrites-is (w .0) (w .1) .1 (rw (w .2) r))

@@ -6,7 +6,7 @@ use native.Mathlib.Omega.{arith}
 use lib.ListN.{length}
 use Rattle.spec.specs.Words.{_∈_, Rule}
 use Rattle.spec.specs.Summaries.{Summaries}
-use Rattle.choice_theory.specs.Numbered.{Rows, WorksOn}
+use Rattle.choice_theory.specs.Numbered.{RowList, WorksOn}
 use Rattle.choice_theory.specs.Works.{works-more}
 use Rattle.choice_theory.specs.Can.{CanBy}
 
@@ -14,7 +14,7 @@ none-in : (l : List ℕ) (u : ℕ) → length l ≤ 0 → u ∈ l → ⊥
 none-in [] u h i = List·Memᴰ·not-nil i
 none-in (v ∷ l) u h i = omega arith
 
-module _ (s : Summaries) (q : Rule ℕ) (rows : Rows) where
+module _ (s : Summaries) (q : Rule ℕ) (rows : RowList) where
   pub can-more : {used used′ may may′ : ℕ → Type 0} {b c : ℕ} → ((u : ℕ) → u < length rows → used u → used′ u) → ((u : ℕ) → u < length rows → may u → may′ u) → b ≤ c
       → CanBy s q rows used may b → CanBy s q rows used′ may′ c
   can-more us ms few o = record {

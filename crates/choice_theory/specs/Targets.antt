@@ -10,7 +10,7 @@ use lib.ListN.{length, getD, replicate, length-append, length-replicate, getD-re
 use lib.Seq.{getD-append-add}
 use Rattle.spec.specs.Words.{_∈_, Term, Subgoal}
 use Rattle.spec.specs.Summaries.{place, Summaries, Own, inPlace, uses, joined}
-use Rattle.choice_theory.specs.Numbered.{Rows, rowAt}
+use Rattle.choice_theory.specs.Numbered.{RowList, rowAt}
 use Rattle.choice_theory.specs.Lists.{getD-in, in-getD}
 use Rattle.choice_theory.specs.Placed.{owners}
 
@@ -51,12 +51,12 @@ module _ {A : Type 0} (d : A) where
           )
 
 -- Row u's use is the use numbered u.
-pub uses-place : (s : Summaries) (rows : Rows) (v u : ℕ) → u < length rows → place (uses s v rows) (suc u) ≡ some (inPlace s (u + v) (rowAt rows u))
+pub uses-place : (s : Summaries) (rows : RowList) (v u : ℕ) → u < length rows → place (uses s v rows) (suc u) ≡ some (inPlace s (u + v) (rowAt rows u))
 uses-place s [] v u h = absurd (omega arith)
 uses-place s (g ∷ rows) v zero h = rw zero-add
 uses-place s (g ∷ rows) v (suc u) h = let e : u + suc v ≡ suc u + v = omega arith in uses-place s rows (suc v) u (omega arith) ∙ ap (λ n. some (inPlace s n (rowAt rows u))) e
 
-pub place-uses : (s : Summaries) (rows : Rows) (v u : ℕ) (l : List (Subgoal (Term (Own ℕ)))) → place (uses s v rows) (suc u) ≡ some l → (u < length rows) × (inPlace s (u + v) (rowAt rows u) ≡ l)
+pub place-uses : (s : Summaries) (rows : RowList) (v u : ℕ) (l : List (Subgoal (Term (Own ℕ)))) → place (uses s v rows) (suc u) ≡ some l → (u < length rows) × (inPlace s (u + v) (rowAt rows u) ≡ l)
 place-uses s [] v u l e = absurd (Option·none-ne-some l e)
 place-uses s (g ∷ rows) v zero l e = (omega arith, ap (λ n. inPlace s n g) (zero-add v) ∙ Option·some-injective (inPlace s v g) l e)
 place-uses s (g ∷ rows) v (suc u) l e = let w = place-uses s rows (suc v) u l e in let n : suc u + v ≡ u + suc v = omega arith in (omega arith, ap (λ n. inPlace s n (rowAt rows u)) n ∙ w .1)

@@ -10,7 +10,7 @@ use Rattle.spec.specs.Summaries.{Summaries, Own, old, fresh, kept, uses, joined
 use Rattle.containment.proofs.Carry.{terms-after, carry, more}
 use Rattle.containment.proofs.Places.{used, in-use}
 use Rattle.containment.proofs.Expand.{extended}
-use Rattle.choice_theory.specs.Numbered.{Rows, rowAt, rowsAt, In, Lands, keptHead, WorksOn}
+use Rattle.choice_theory.specs.Numbered.{RowList, rowAt, rowsAt, InRowList, InChosenUse, keptHead, WorksOn}
 use Rattle.choice_theory.specs.Lists.{place-getD, getD-in, index, index-place}
 use Rattle.choice_theory.specs.Moved.{renumbered}
 
@@ -20,19 +20,19 @@ pub moved : (q : Rule ℕ) (ξ : Own ℕ → Term (Own ℕ)) {d d′ : Facts (Te
 moved q ξ {d} {d′} olds facts y =
     subst (Yields con q d′) (terms-after con kept ξ (q .head) ∙ ap (λ f. map (becomes con f) (q .head)) (fun-ext olds)) (carry (becomes con ξ) q (λ c i. refl) facts y)
 
-module _ (s : Summaries) (q : Rule ℕ) (rows : Rows) where
+module _ (s : Summaries) (q : Rule ℕ) (rows : RowList) where
   -- More rows never lose the mapping.
   pub works-more : {Chosen Wider : ℕ → Type 0} → ((u : ℕ) → u < length rows → Chosen u → Wider u) → WorksOn s q rows Chosen → WorksOn s q rows Wider
   works-more wider y = more (λ c l. record { row = l .row; within = l .within; chosen = wider (l .row) (l .within) (l .chosen); inside = l .inside }) y
 
   module _ (ns : List ℕ) where
-    pub works-maps : WorksOn s q rows (In ns) → Mapping q (expansion s (rewriting q (rowsAt rows ns)))
+    pub works-maps : WorksOn s q rows (InRowList ns) → Mapping q (expansion s (rewriting q (rowsAt rows ns)))
     works-maps = moved q ξ (λ x. refl) lands
       where
         ξ : Own ℕ → Term (Own ℕ)
         ξ = extended kept (λ u x. var (fresh (index u ns) x))
 
-        lands : (c : Subgoal (Term (Own ℕ))) → Lands s rows (In ns) c → each (becomes con ξ) c ∈ joined (uses s 0 (rowsAt rows ns))
+        lands : (c : Subgoal (Term (Own ℕ))) → InChosenUse s rows (InRowList ns) c → each (becomes con ξ) c ∈ joined (uses s 0 (rowsAt rows ns))
         lands c l = in-use s 0 (rowsAt rows ns) (each (becomes con ξ) c) record {
           by = index (l .row) ns;
           of = rowAt rows (l .row);
@@ -40,13 +40,13 @@ module _ (s : Summaries) (q : Rule ℕ) (rows : Rows) where
           inside = rw add-zero (renumbered s (rowAt rows (l .row)) (l .row) (index (l .row) ns) ξ (λ x. refl) (λ x. refl) c (l .inside));
         }
 
-    pub maps-works : ((u : ℕ) → u ∈ ns → u < length rows) → Mapping q (expansion s (rewriting q (rowsAt rows ns))) → WorksOn s q rows (In ns)
+    pub maps-works : ((u : ℕ) → u ∈ ns → u < length rows) → Mapping q (expansion s (rewriting q (rowsAt rows ns))) → WorksOn s q rows (InRowList ns)
     maps-works within = moved q ξ (λ x. refl) lands
       where
         ξ : Own ℕ → Term (Own ℕ)
         ξ = extended kept (λ j x. var (fresh (getD ns j 0) x))
 
-        lands : (c : Subgoal (Term (Own ℕ))) → c ∈ joined (uses s 0 (rowsAt rows ns)) → Lands s rows (In ns) (each (becomes con ξ) c)
+        lands : (c : Subgoal (Term (Own ℕ))) → c ∈ joined (uses s 0 (rowsAt rows ns)) → InChosenUse s rows (InRowList ns) (each (becomes con ξ) c)
         lands c m =
             let w = used s 0 (rowsAt rows ns) c m in
             let at = place-getD (rowAt rows 0) (rowsAt rows ns) (w .by) (w .of) (w .at) in
@@ -60,5 +60,5 @@ module _ (s : Summaries) (q : Rule ℕ) (rows : Rows) where
             }
 
     -- The law of numbers.
-    pub works-is : ((u : ℕ) → u ∈ ns → u < length rows) → WorksOn s q rows (In ns) ↔ Mapping q (expansion s (rewriting q (rowsAt rows ns)))
+    pub works-is : ((u : ℕ) → u ∈ ns → u < length rows) → WorksOn s q rows (InRowList ns) ↔ Mapping q (expansion s (rewriting q (rowsAt rows ns)))
     works-is within = (works-maps, maps-works within)

@@ -1,11 +1,11 @@
--- Terms and subgoals as the words that the search reads. A subgoal is nine words: its relation and eight terms, of which the first few count.
+-- Terms and subgoals as the codes that the search reads. A subgoal is nine codes: its relation and eight terms, of which the first few count.
 use mathlib.Core.List.{List, [], _∷_, _++_, map}
 use Prim.Native.Nat.{ℕ, zero, suc, _+_, _*_}
 use lib.ListN.{length}
 use Rattle.spec.specs.Words.{Term, var, con, Subgoal}
 use Rattle.spec.specs.Summaries.{Own, old, fresh}
 
--- A word of a target is a tag, in units of 2^32, and a number: 1 a variable, 2 a constant, 3 a use's own variable. So words sort as terms do, and none is 0.
+-- A code of a target is a tag, in units of 2^32, and a number: 1 a variable, 2 a constant, 3 a use's own variable. So codes sort as terms do, and none is 0.
 abbrev pub variableTag : ℕ
 variableTag = 4294967296
 
@@ -26,7 +26,7 @@ ownCode (var (old x)) = variableTag + x
 ownCode (var (fresh u x)) = freshTag + (32 * u + x)
 ownCode (con c) = constantTag + c
 
--- A word of a source is a slot, below 64, or a constant's word. A rule's own variables are slots 0 to 31.
+-- A code of a source is a slot, below 64, or a constant's code. A rule's own variables are slots 0 to 31.
 abbrev pub slotCode : Term ℕ → ℕ
 slotCode (var x) = x
 slotCode (con c) = constantTag + c
@@ -37,7 +37,7 @@ ownSlot (var (old x)) = x
 ownSlot (var (fresh u x)) = 32 + x
 ownSlot (con c) = constantTag + c
 
--- One use as a source that keeps the list's terms as they are: those are words of a target, and the use's own variables are slots.
+-- One use as a source that keeps the list's terms as they are: those are codes of a target, and the use's own variables are slots.
 abbrev pub keptSlot : Term (Own ℕ) → ℕ
 keptSlot (var (old x)) = variableTag + x
 keptSlot (var (fresh u x)) = x
@@ -47,18 +47,18 @@ keptSlot (con c) = constantTag + c
 abbrev pub subgoalSize : ℕ
 subgoalSize = 9
 
--- eight words: those of the list, and 1 where it has ended
+-- eight codes: those of the list, and 1 where it has ended
 abbrev pub padded : ℕ → List ℕ → List ℕ
 padded zero l = []
 padded (suc n) [] = 1 ∷ padded n []
 padded (suc n) (x ∷ l) = x ∷ padded n l
 
-abbrev pub subgoalWords : {A : Type 0} → (A → ℕ) → Subgoal A → List ℕ
-subgoalWords code g = g .relation ∷ padded 8 (map code (g .terms))
+abbrev pub subgoalCodes : {A : Type 0} → (A → ℕ) → Subgoal A → List ℕ
+subgoalCodes code g = g .relation ∷ padded 8 (map code (g .terms))
 
-abbrev pub wordsOf : {A : Type 0} → (A → ℕ) → List (Subgoal A) → List ℕ
-wordsOf code [] = []
-wordsOf code (g ∷ gs) = subgoalWords code g ++ wordsOf code gs
+abbrev pub codesOf : {A : Type 0} → (A → ℕ) → List (Subgoal A) → List ℕ
+codesOf code [] = []
+codesOf code (g ∷ gs) = subgoalCodes code g ++ codesOf code gs
 
 -- how many of a subgoal's eight terms count
 abbrev pub widthsOf : {A : Type 0} → List (Subgoal A) → List ℕ

@@ -16,12 +16,12 @@ use Rattle.spec.proofs.Refresh.Admits.{test-admitted}
 use Rattle.spec.specs.Book.{Summary, Book, ifTrue, admittedOf}
 use Rattle.spec.specs.Demand.{OverAdmitted}
 use Rattle.containment.proofs.Sound.{ruleOf}
-use Rattle.containment.proofs.Extend.{Extends, extend-uses, extend-expansion, extend-rewrites}
+use Rattle.containment.proofs.Extend.{AdmitsMore, extend-uses, extend-expansion, extend-rewrites}
 use Rattle.spec.specs.LeftOut.{LeftOut, SameButLeftOut}
 
 -- The same summaries are admitted, under the same numbers.
 abbrev pub SameAdmitted : Summaries → Summaries → Type 0
-SameAdmitted s t = Extends s t × Extends t s
+SameAdmitted s t = AdmitsMore s t × AdmitsMore t s
 
 first-same : {A : Type 0} {P Q : A → Type 0} {Before : A → A → Type 0} → ((a : A) → P a ↔ Q a) → (a : A) → First P Before a ↔ First Q Before a
 first-same same a = (
@@ -29,10 +29,10 @@ first-same same a = (
   λ f. record { holds = same a .1 (f .holds); least = λ b p. f .least b (same b .0 p) },
 )
 
-there-extends : (s t : Summaries) → Extends s t → (q r : Rule ℕ) → OverAdmitted s r → (bytes : List ℕ) → There s q r bytes → There t q r bytes
+there-extends : (s t : Summaries) → AdmitsMore s t → (q r : Rule ℕ) → OverAdmitted s r → (bytes : List ℕ) → There s q r bytes → There t q r bytes
 there-extends s t more q r over bytes w = record { targets = w .targets; named = subst (λ us. AtPairs us bytes (w .targets)) (extend-uses s t more 0 (r .body) over) (w .named); mapping = w .mapping }
 
-back-extends : (s t : Summaries) → Extends s t → (q r : Rule ℕ) → OverAdmitted s r → (bytes : List ℕ) → Back s q r bytes → Back t q r bytes
+back-extends : (s t : Summaries) → AdmitsMore s t → (q r : Rule ℕ) → OverAdmitted s r → (bytes : List ℕ) → Back s q r bytes → Back t q r bytes
 back-extends s t more q r over bytes w = record { targets = w .targets; named = w .named; mapping = subst (λ z. Sends z (q .head) (w .targets)) (extend-expansion s t more r over) (w .mapping) }
 
 pub same-answer : (s t : Summaries) → SameAdmitted s t → (q : Rule ℕ) (l : List (Subgoal (Term ℕ))) → Answer s q l ↔ Answer t q l

@@ -6,8 +6,8 @@ use Prim.Native.Nat.{ℕ}
 use Rattle.spec.specs.Words.{_∈_, Term, var, con, Subgoal, Rule, Facts, becomes, each, Yields, Mapping}
 
 -- The term stands in the rule: in its head or in a subgoal.
-abbrev pub Stands : {X : Type 0} → Term X → Rule X → Type 0
-Stands {X} t r = (t ∈ r .head) ⊎ ((g : Subgoal (Term X)) × (g ∈ r .body) × (t ∈ g .terms))
+abbrev pub StandsInRule : {X : Type 0} → Term X → Rule X → Type 0
+StandsInRule {X} t r = (t ∈ r .head) ⊎ ((g : Subgoal (Term X)) × (g ∈ r .body) × (t ∈ g .terms))
 
 module _ {A B X : Type 0} (h : A → B) (k : ℕ → A) (k′ : ℕ → B) (f : X → A) where
   pub terms-carry : (ts : List (Term X)) → ((c : ℕ) → con c ∈ ts → h (k c) ≡ k′ c) → map h (map (becomes k f) ts) ≡ map (becomes k′ (λ x. h (f x))) ts
@@ -20,7 +20,7 @@ module _ {A B X : Type 0} (h : A → B) (k : ℕ → A) (k′ : ℕ → B) (f : 
 
 -- If h keeps the rule's constants and takes facts of d to facts of d′, it takes yielded rows to yielded rows.
 pub carry : {A B X : Type 0} (h : A → B) {k : ℕ → A} {k′ : ℕ → B} {d : Facts A} {d′ : Facts B} (r : Rule X)
-    → ((c : ℕ) → Stands (con c) r → h (k c) ≡ k′ c) → ((f : Subgoal A) → d f → d′ (each h f))
+    → ((c : ℕ) → StandsInRule (con c) r → h (k c) ≡ k′ c) → ((f : Subgoal A) → d f → d′ (each h f))
     → {row : List A} → Yields k r d row → Yields k′ r d′ (map h row)
 carry h {k} {k′} {d} {d′} r keeps facts y = record {
   value = λ x. h (y .value x);

@@ -14,8 +14,8 @@ abbrev pub Contained : {X Y : Type 0} → List ℕ → Rule X → Rule Y → Typ
 Contained arities q r = (d : List (Subgoal ℕ)) → AllFit arities d → (row : List ℕ) → Yields itself r (Listed d) row → Yields itself q (Listed d) row
 
 -- On all finite facts that fit the arities, q and r yield the same rows.
-abbrev pub SameRows : {X Y : Type 0} → List ℕ → Rule X → Rule Y → Type 0
-SameRows arities q r = (d : List (Subgoal ℕ)) → AllFit arities d → (row : List ℕ) → Yields itself q (Listed d) row ↔ Yields itself r (Listed d) row
+abbrev pub YieldSame : {X Y : Type 0} → List ℕ → Rule X → Rule Y → Type 0
+YieldSame arities q r = (d : List (Subgoal ℕ)) → AllFit arities d → (row : List ℕ) → Yields itself q (Listed d) row ↔ Yields itself r (Listed d) row
 
 -- Each rule has its own variables, of any type; those of a rule that is frozen can be told apart.
 pub mapping-contains : {X Y : Type 0} (arities : List ℕ) → Eq Y → (q : Rule X) (r : Rule Y) → AllFit arities (r .body) → Mapping q r ↔ Contained arities q r
@@ -29,7 +29,7 @@ mapping-contains arities e q r fit = (λ m d f row y. contains m y, back)
         (c (frozen e base r) (fit-each arities (becomes itself (freeze e base r)) (r .body) fit) (frozenRow e base r) (yields-frozen e base r))
 
 pub mappings-same : {X Y : Type 0} (arities : List ℕ) → Eq X → Eq Y → (q : Rule X) (r : Rule Y) → AllFit arities (q .body) → AllFit arities (r .body)
-    → (Mapping q r × Mapping r q) ↔ SameRows arities q r
+    → (Mapping q r × Mapping r q) ↔ YieldSame arities q r
 mappings-same arities eX eY q r fitq fitr = (
   λ m d f row. (λ y. contains (m .1) y, λ y. contains (m .0) y),
   λ same. (mapping-contains arities eY q r fitr .1 (λ d f row. same d f row .1), mapping-contains arities eX r q fitq .1 (λ d f row. same d f row .0)),

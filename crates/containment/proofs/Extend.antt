@@ -11,18 +11,18 @@ use Rattle.spec.specs.Demand.{OverAdmitted}
 use Rattle.containment.proofs.Normal.{answer-least}
 
 -- Each summary admitted in s is admitted in t, under its number.
-abbrev pub Extends : Summaries → Summaries → Type 0
-Extends s t = (n : ℕ) (r : Rule ℕ) → summary s n ≡ some r → summary t n ≡ some r
+abbrev pub AdmitsMore : Summaries → Summaries → Type 0
+AdmitsMore s t = (n : ℕ) (r : Rule ℕ) → summary s n ≡ some r → summary t n ≡ some r
 
 -- "put any sound summary at the end"
-pub append-extends : (s t : Summaries) → Extends s (s ++ t)
+pub append-extends : (s t : Summaries) → AdmitsMore s (s ++ t)
 append-extends [] t n r e = absurd (Option·none-ne-some r e)
 append-extends (a ∷ s) t zero r e = absurd (Option·none-ne-some r e)
 append-extends (a ∷ s) t (suc zero) r e = e
 append-extends (a ∷ s) t (suc (suc n)) r e = append-extends s t (suc n) r e
 
 -- A summary that is left out at the end is none.
-pub append-none : (s : Summaries) → Extends (s ++ (none ∷ [])) s
+pub append-none : (s : Summaries) → AdmitsMore (s ++ (none ∷ [])) s
 append-none [] zero r e = absurd (Option·none-ne-some r e)
 append-none [] (suc zero) r e = absurd (Option·none-ne-some r e)
 append-none [] (suc (suc n)) r e = absurd (Option·none-ne-some r e)
@@ -30,7 +30,7 @@ append-none (a ∷ s) zero r e = absurd (Option·none-ne-some r e)
 append-none (a ∷ s) (suc zero) r e = e
 append-none (a ∷ s) (suc (suc n)) r e = append-none s (suc n) r e
 
-module _ (s t : Summaries) (more : Extends s t) where
+module _ (s t : Summaries) (more : AdmitsMore s t) where
   pub extend-yielded : {A : Type 0} {k : ℕ → A} {d : Facts A} (f : Subgoal A) → Yielded k s d f → Yielded k t d f
   extend-yielded f y = record { rule = y .rule; admitted = more (f .relation) (y .rule) (y .admitted); yields = y .yields }
 

@@ -12,18 +12,18 @@ use Rattle.spec.specs.Words.{_∈_, Term, var, con, Subgoal, Rule, Facts, Liste
 use Rattle.spec.proofs.Lists.Tests.{passes, fails}
 use Rattle.spec.proofs.Decided.Equal.{Eq, termTest, term-sound, term-same}
 use Rattle.spec.proofs.Lists.Gathered.{gather, gather-in}
-use Rattle.containment.proofs.Carry.{Stands, carry}
+use Rattle.containment.proofs.Carry.{StandsInRule, carry}
 
 abbrev pub termsOf : {X : Type 0} → Rule X → List (Term X)
 termsOf r = r .head ++ gather (λ g. g .terms) (r .body)
 
-stands-in : {X : Type 0} {t : Term X} (r : Rule X) → Stands t r → t ∈ termsOf r
+stands-in : {X : Type 0} {t : Term X} (r : Rule X) → StandsInRule t r → t ∈ termsOf r
 stands-in r (inl m) = Memᴰ·append-left (gather (λ g. g .terms) (r .body)) m
 stands-in r (inr w) = Memᴰ·append-right (r .head) (gather-in (λ g. g .terms) (r .body) (w .1) (w .2))
 
 -- Every constant of the rule is below the number.
 abbrev pub Below : {X : Type 0} → ℕ → Rule X → Type 0
-Below base r = (c : ℕ) → Stands (con c) r → c < base
+Below base r = (c : ℕ) → StandsInRule (con c) r → c < base
 
 abbrev above : {X : Type 0} → List (Term X) → ℕ
 above [] = 0
@@ -78,14 +78,14 @@ module _ {Y : Type 0} (e : Eq Y) where
     melt-constant c h = rw (lt-ltb c base h)
 
     module _ (below : Below base r) where
-      melt-term : (t : Term Y) → Stands t r → melt (becomes itself freeze t) ≡ t
+      melt-term : (t : Term Y) → StandsInRule t r → melt (becomes itself freeze t) ≡ t
       melt-term (con c) m = melt-constant c (below c m)
       melt-term (var y) m =
           let n = number (termsOf r) y in
           let s : base + n - base ≡ n = omega arith in
           rw (le-ltb (base + n) base (omega arith), s) (numbered (termsOf r) y (stands-in r m))
 
-      melt-terms : (ts : List (Term Y)) → ((t : Term Y) → t ∈ ts → Stands t r) → map melt (map (becomes itself freeze) ts) ≡ ts
+      melt-terms : (ts : List (Term Y)) → ((t : Term Y) → t ∈ ts → StandsInRule t r) → map melt (map (becomes itself freeze) ts) ≡ ts
       melt-terms [] h = refl
       melt-terms (t ∷ ts) h = ap₂ _∷_ (melt-term t (h t (List·Memᴰ·head refl))) (melt-terms ts (λ s m. h s (List·Memᴰ·tail m)))
 

@@ -6,7 +6,7 @@ use mathlib.Core.List.{List}
 use Prim.Native.Nat.{ℕ}
 use Rattle.spec.specs.Words.{con, Subgoal, Rule, Facts, becomes, each, Yields, itself}
 use Rattle.spec.specs.Summaries.{Summaries, summary, Yielded, HoldJust}
-use Rattle.containment.proofs.Carry.{Stands, carry, more}
+use Rattle.containment.proofs.Carry.{StandsInRule, carry, more}
 use Rattle.spec.specs.Demand.{OverAdmitted}
 
 -- Every admitted summary's rule has the property.
@@ -14,7 +14,7 @@ abbrev pub Every : Summaries → (Rule ℕ → Type 0) → Type 0
 Every s P = (n : ℕ) (r : Rule ℕ) → summary s n ≡ some r → P r
 
 pub yielded-carry : {A B : Type 0} (h : A → B) {k : ℕ → A} {k′ : ℕ → B} {d : Facts A} {d′ : Facts B} (s : Summaries)
-    → Every s (λ r. (c : ℕ) → Stands (con c) r → h (k c) ≡ k′ c) → ((f : Subgoal A) → d f → d′ (each h f))
+    → Every s (λ r. (c : ℕ) → StandsInRule (con c) r → h (k c) ≡ k′ c) → ((f : Subgoal A) → d f → d′ (each h f))
     → (f : Subgoal A) → Yielded k s d f → Yielded k′ s d′ (each h f)
 yielded-carry h s keeps facts f y = record { rule = y .rule; admitted = y .admitted; yields = carry h (y .rule) (keeps (f .relation) (y .rule) (y .admitted)) facts (y .yields) }
 

@@ -38,14 +38,14 @@ module _ {A : Type 0} {Before : A → A → Type 0} (o : Strict Before) where
   sorted-few (a ∷ l) = omega (arith, insert-few a (sorted o l), sorted-few l)
 
 -- An equivalent ascending list of summary rows, of at most so many rows.
-pub record Ordered (s : Summaries) (q : Rule ℕ) (many : ℕ) : Type 0 where
+pub record OrderedList (s : Summaries) (q : Rule ℕ) (many : ℕ) : Type 0 where
   pub list : List (Subgoal (Term ℕ))
   pub rewrites : Rewrites s q list
   pub few : length list ≤ many
 
 -- The same, from the rows of a list.
 pub record OrderedIn (s : Summaries) (q : Rule ℕ) (l : List (Subgoal (Term ℕ))) (many : ℕ) : Type 0 where
-  pub ordered : Ordered s q many
+  pub ordered : OrderedList s q many
   pub within : (g : Subgoal (Term ℕ)) → g ∈ ordered .list → g ∈ l
 
 -- Rows with the mapping there, put in order.
@@ -89,14 +89,14 @@ pub answer-few : (s : Summaries) (q : Rule ℕ) (l : List (Subgoal (Term ℕ))) 
 answer-few s q l a = let o = shorten s q l (a .holds) .ordered in omega (arith, answer-least s q l (o .list) a (o .rewrites), o .few)
 
 -- Any equivalent rewriting whose subgoals suit their summaries, with variables of any type.
-pub normal : {X : Type 0} (s : Summaries) (q : Rule ℕ) (p : Rule X) → SuitAll s p → Equivalent s q p → Ordered s q (length (p .body))
+pub normal : {X : Type 0} (s : Summaries) (q : Rule ℕ) (p : Rule X) → SuitAll s p → Equivalent s q p → OrderedList s q (length (p .body))
 normal s q p suits e =
     let i = image-of s q p suits e in
     let o = put-in-order s q (i .0 .list) (i .0 .rows) (i .1) .ordered in
     record { list = o .list; rewrites = o .rewrites; few = omega (arith, o .few, i .0 .long) }
 
 -- Any over admitted summaries, heads of distinct variables.
-pub normal-over : {X : Type 0} (s : Summaries) → DistinctHeads s → (q : Rule ℕ) (p : Rule X) → OverAll s p → Equivalent s q p → Ordered s q (length (p .body))
+pub normal-over : {X : Type 0} (s : Summaries) → DistinctHeads s → (q : Rule ℕ) (p : Rule X) → OverAll s p → Equivalent s q p → OrderedList s q (length (p .body))
 normal-over s distinct q p over = normal s q p (over-suit-all s distinct p over)
 
 -- So 'no equivalent rewriting' (refusal 10) and 'no equivalent list of summary rows' are one.

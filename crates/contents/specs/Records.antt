@@ -10,6 +10,6 @@ recordsOf (Good n) = entries n
 recordsOf (Refused r) = 0
 
 -- An answer's count is no more than a book that loads can have.
-abbrev pub Few : Loaded → Type 0
-Few (Good n) = n ≤ mostSummaries
-Few (Refused r) = Unit
+abbrev pub FewSummaries : Loaded → Type 0
+FewSummaries (Good n) = n ≤ mostSummaries
+FewSummaries (Refused r) = Unit

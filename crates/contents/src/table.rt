@@ -3,7 +3,7 @@ ghost use mathlib.Core.Path.{_≡_};
 ghost use Prim.Native.Nat.{_+_, _*_, _≤_, _<_};
 ghost use lib.ListN.{length};
 ghost use Rattle.spec.specs.TableLoading.{JudgeSays, LoadingSays, recordAt};
-ghost use Rattle.contents.specs.Records.{recordsOf, Few};
+ghost use Rattle.contents.specs.Records.{recordsOf, FewSummaries};
 use crate::fields::entries_of;
 use crate::fields::length_at;
 use crate::fields::offset_at;
@@ -25,7 +25,7 @@ fn judge_table(book: &[u8], room: usize) -> Loaded
 
 // How many records are to be written: none where the book or the table is refused.
 fn records_of(said: Loaded) -> usize
-    requires { ⌜ Few said ⌝ }
+    requires { ⌜ FewSummaries said ⌝ }
     ensures { λ r. ⌜ r ≡ recordsOf said ⌝ }
 {
     match said {

@@ -13,7 +13,7 @@ use Rattle.bits.proofs.Less.{without-out, without-in}
 use Rattle.bits.proofs.Common.{meets-some}
 use Rattle.spec.specs.Words.{Rule}
 use Rattle.spec.specs.Summaries.{Summaries}
-use Rattle.choice_theory.specs.Numbered.{Rows}
+use Rattle.choice_theory.specs.Numbered.{RowList}
 use Rattle.choice_theory.specs.Can.{CanBy}
 use Rattle.choice_theory.specs.Dominance.{drop-dominated}
 use Rattle.task.specs.Task.{Task}
@@ -43,7 +43,7 @@ module _ {dom : List ℕ} {n used may kept row : ℕ} (p : Pruned dom n used may
       over : Has (getD dom row 0) (w .0) × (w .0 ≡ row → ⊥)
       over = without-out (getD dom row 0) row (w .0) (w .1)
 
-      drops : (s : Summaries) (q : Rule ℕ) (rows : Rows) → length rows ≡ n → Table s rows n dom → (b : ℕ) → CanBy s q rows (Has used) (Has kept) b ↔ CanBy s q rows (Has used) (Has (without kept row)) b
+      drops : (s : Summaries) (q : Rule ℕ) (rows : RowList) → length rows ≡ n → Table s rows n dom → (b : ℕ) → CanBy s q rows (Has used) (Has kept) b ↔ CanBy s q rows (Has used) (Has (without kept row)) b
       drops s q rows e o b = drop-dominated s q rows (w .0) row (o .sound row (w .0) here (over .0)) (omega (arith, o .within row (w .0) here (over .0)))
           (over .1) (λ u h i. without-out kept row u i .0) (λ u h f i. without-in kept row u i f) (or-cases used kept (w .0) (w .2))
 

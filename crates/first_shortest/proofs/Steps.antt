@@ -15,9 +15,9 @@ use Rattle.bits.proofs.Less.{without-is, first-in}
 use Rattle.spec.specs.Words.{_∈_, Rule}
 use Rattle.spec.specs.Summaries.{Summaries}
 use Rattle.spec.specs.Answer.{Rewrites}
-use Rattle.choice_theory.specs.Numbered.{Rows}
+use Rattle.choice_theory.specs.Numbered.{RowList}
 use Rattle.choice_theory.specs.Can.{Can, CanBy}
-use Rattle.choice_theory.specs.Going.{AtLeast, Going}
+use Rattle.choice_theory.specs.Going.{AtLeast, PassState}
 use Rattle.choice_theory.specs.Marked.{Marked, marked-start, marked-taken, marked-passed, marked-can}
 use Rattle.choice_theory.specs.Frame.{going-start, going-within, going-taken, going-passed, going-answer}
 use Rattle.choice_theory.specs.Fewest.{at-least-start, at-least-next, at-least-none}
@@ -32,7 +32,7 @@ use Rattle.first_shortest.specs.declared.Chosen.{Chosen}
 use Rattle.first_shortest.specs.declared.Pass.{Pass}
 
 -- before the first row: of n rows none is used, all may be
-module _ {s : Summaries} {q : Rule ℕ} {rows : Rows} {t : Task} {b : List ℕ} {n : ℕ} (p : PosedBy s q rows t b n) where
+module _ {s : Summaries} {q : Rule ℕ} {rows : RowList} {t : Task} {b : List ℕ} {n : ℕ} (p : PosedBy s q rows t b n) where
   marked-none : Marked (length rows) (Has 0) (Has (first n)) [] 0
   marked-none = marked-start (length rows) (Has 0) (Has (first n)) (λ u h. has-none u) (λ u h. first-in n u (omega (arith, p .count)))
 
@@ -143,7 +143,7 @@ module _ {t : Task} {b : List ℕ} {n row : ℕ} {p : Pass} (w : Underway t b n 
 
   module _ (here : row < n) (some : 0 < p .left) where
     -- what the sets say once the row is taken
-    module _ {s : Summaries} {q : Rule ℕ} {rows : Rows} (o : PosedBy s q rows t b n) where
+    module _ {s : Summaries} {q : Rule ℕ} {rows : RowList} (o : PosedBy s q rows t b n) where
       marked-next : Marked (length rows) (Has (with (p .used) row)) (Has (without (p .may) row)) (take (p .k) (p .rows) ++ (row ∷ [])) (row + 1)
       marked-next = marked-taken (w .by s q rows o .marked) _ _ (λ u h. (with-cases (p .used) row u, ⊎-elim (with-old (p .used) row u) (λ e. rw e (with-new (p .used) row)))) (λ u h. without-is (p .may) row u)
 

@@ -12,7 +12,7 @@ use Rattle.spec.specs.Order.{RowBefore}
 use Rattle.spec.proofs.Lists.Strict.{first-unique, numbers-compare}
 use Rattle.spec.proofs.Decided.Orders.{rowOrder, shorterOrder}
 use Rattle.spec.proofs.Lists.Rising.{Rising}
-use Rattle.choice_theory.specs.Numbered.{Rows, nothing, rowAt, rowsAt}
+use Rattle.choice_theory.specs.Numbered.{RowList, nothing, rowAt, rowsAt}
 use Rattle.choice_theory.specs.Lists.{rising-getD}
 use Rattle.task.specs.Task.{Task}
 use Rattle.first_shortest.specs.Posed.{Posed}
@@ -20,7 +20,7 @@ use Rattle.first_shortest.specs.Chosen.{numbersOf, Found, NotFound, Chos
 use Rattle.first_shortest.specs.declared.Chosen.{Chosen}
 
 -- rows that ascend are told by their numbers
-module _ (rows : Rows) (rises : Rising RowBefore rows) where
+module _ (rows : RowList) (rises : Rising RowBefore rows) where
   apart : (u v : ℕ) → u < v → v < length rows → rowAt rows u ≡ rowAt rows v → ⊥
   apart u v l h e = rowOrder .never (rowAt rows v) (subst (λ g. RowBefore g (rowAt rows v)) e (rising-getD RowBefore nothing rows rises u v l h))
 
@@ -41,10 +41,10 @@ module _ (rows : Rows) (rises : Rising RowBefore rows) where
       (numbers-once ns ms (λ u i. h u (List·Memᴰ·tail i)) (λ u i. k u (List·Memᴰ·tail i)) (cc))
 
 -- the numbers chosen say the whole result
-laid : {s : Summaries} {q : Rule ℕ} {rows : Rows} (r : Chosen) → Found s q rows r → r .rows ≡ numbersOf r ++ replicate (12 - length (numbersOf r)) 0
+laid : {s : Summaries} {q : Rule ℕ} {rows : RowList} (r : Chosen) → Found s q rows r → r .rows ≡ numbersOf r ++ replicate (12 - length (numbersOf r)) 0
 laid r f = sym (take-append-drop (r .k) (r .rows)) ∙ ap (_++_ (numbersOf r)) (f .rest ∙ ap (λ n. replicate (12 - n) 0) (sym (f .count)))
 
-module _ {s : Summaries} {q : Rule ℕ} {rows : Rows} (rising : Rising RowBefore rows) where
+module _ {s : Summaries} {q : Rule ℕ} {rows : RowList} (rising : Rising RowBefore rows) where
   both-found : (r o : Chosen) → Found s q rows r → Found s q rows o → (r .k ≡ o .k) × (r .rows ≡ o .rows)
   both-found r o f g = (sym (f .count) ∙ ap length e ∙ g .count, laid r f ∙ ap (λ l. l ++ replicate (12 - length l) 0) e ∙ sym (laid o g))
     where

@@ -1,4 +1,4 @@
--- Whether a row dominates another, on words.
+-- Whether a row dominates another, on codes.
 use mathlib.Core.Path.{_≡_, refl, sym, subst}
 use mathlib.Core.Bool.{Bool, true, false}
 use mathlib.Core.Logic.{_↔_}
@@ -7,7 +7,7 @@ use Prim.Native.Nat.{ℕ}
 use lib.ListN.{replicate}
 use Rattle.bits.proofs.Laws.{exactly-once}
 use Rattle.spec.specs.Summaries.{Summaries}
-use Rattle.choice_theory.specs.Numbered.{Rows}
+use Rattle.choice_theory.specs.Numbered.{RowList}
 use Rattle.choice_theory.specs.Dominates.{Dominates}
 use Rattle.task.specs.Task.{Task, Sized}
 use Rattle.placing.specs.FirstPlaces.{FirstPlaces}
@@ -18,14 +18,14 @@ use Rattle.search_meaning.proofs.Dominance.{use-sized, dominates-is}
 use Rattle.first_shortest.specs.Pruning.{UsesBy, Uses, TellsDominance}
 use Rattle.spec.proofs.Lists.Zeros.{zero-at}
 
-module _ {s : Summaries} {rows : Rows} {d r : ℕ} {t : Task} (p : UsesBy s rows d r t) where
+module _ {s : Summaries} {rows : RowList} {d r : ℕ} {t : Task} (p : UsesBy s rows d r t) where
   sized-by : Sized t
-  sized-by = subst Sized (sym (p .words)) (use-sized (p .arities) s (p .question) (p .bounds) rows (p .within) d r (p .over) (p .under) (t .lasts) (t .own) (replicate 64 0) (p .owned) (p .marked) (p .sets))
+  sized-by = subst Sized (sym (p .codes)) (use-sized (p .arities) s (p .question) (p .bounds) rows (p .within) d r (p .over) (p .under) (t .lasts) (t .own) (replicate 64 0) (p .owned) (p .marked) (p .sets))
 
   mapped-dominates : ((l : List ℕ) × Mapped t (replicate 64 0) l) ↔ Dominates s rows d r
   mapped-dominates =
       let e = dominates-is (p .arities) s (p .question) (p .bounds) rows (p .within) d r (p .over) (p .under) (t .lasts) (t .own) (replicate 64 0) (p .owned) free in
-      (λ m. e .0 (m .0, subst (λ z. Mapped z (replicate 64 0) (m .0)) (p .words) (m .1)), λ o. let m = e .1 o in (m .0, subst (λ z. Mapped z (replicate 64 0) (m .0)) (sym (p .words)) (m .1)))
+      (λ m. e .0 (m .0, subst (λ z. Mapped z (replicate 64 0) (m .0)) (p .codes) (m .1)), λ o. let m = e .1 o in (m .0, subst (λ z. Mapped z (replicate 64 0) (m .0)) (sym (p .codes)) (m .1)))
     where
       free : (x : ℕ) → Bound (replicate 64 0) x → ⊥
       free x h = h (zero-at 64 x)

@@ -7,7 +7,7 @@ use lib.ListN.{length, take, drop, replicate}
 use Rattle.spec.specs.Words.{_∈_, Rule}
 use Rattle.spec.specs.Summaries.{Summaries}
 use Rattle.spec.specs.Answer.{Rewrites, Answer}
-use Rattle.choice_theory.specs.Numbered.{Rows, rowsAt}
+use Rattle.choice_theory.specs.Numbered.{RowList, rowsAt}
 use Rattle.task.specs.Task.{Task}
 use Rattle.first_shortest.specs.Posed.{PosedBy}
 use Rattle.first_shortest.specs.declared.Chosen.{Chosen}
@@ -17,7 +17,7 @@ abbrev pub numbersOf : Chosen → List ℕ
 numbersOf r = take (r .k) (r .rows)
 
 -- "The answer is the first of the shortest equivalent lists of distinct summary rows": it has k rows, and their numbers stand first.
-pub record Found (s : Summaries) (q : Rule ℕ) (rows : Rows) (r : Chosen) : Type 0 where
+pub record Found (s : Summaries) (q : Rule ℕ) (rows : RowList) (r : Chosen) : Type 0 where
   pub few : r .k ≤ 12
   pub count : length (numbersOf r) ≡ r .k
   pub within : (u : ℕ) → u ∈ numbersOf r → u < length rows
@@ -26,14 +26,14 @@ pub record Found (s : Summaries) (q : Rule ℕ) (rows : Rows) (r : Chosen) : Typ
 
 -- "no equivalent list exists", and then the rows say nothing
 pub record NotFound (s : Summaries) (q : Rule ℕ) (r : Chosen) : Type 0 where
-  pub none : (l : Rows) → Rewrites s q l → ⊥
+  pub none : (l : RowList) → Rewrites s q l → ⊥
   pub count : r .k ≡ 0
   pub rest : r .rows ≡ replicate 12 0
 
-pub record ChosenBy (s : Summaries) (q : Rule ℕ) (rows : Rows) (r : Chosen) : Type 0 where
+pub record ChosenBy (s : Summaries) (q : Rule ℕ) (rows : RowList) (r : Chosen) : Type 0 where
   pub found : r .ok ≡ true → Found s q rows r
   pub none : r .ok ≡ false → NotFound s q r
 
 -- Of every question whose task it is.
 pub record Chooses (t : Task) (b : List ℕ) (n : ℕ) (r : Chosen) : Type 0 where
-  pub by : (s : Summaries) (q : Rule ℕ) (rows : Rows) → PosedBy s q rows t b n → ChosenBy s q rows r
+  pub by : (s : Summaries) (q : Rule ℕ) (rows : RowList) → PosedBy s q rows t b n → ChosenBy s q rows r

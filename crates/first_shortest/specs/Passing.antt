@@ -7,8 +7,8 @@ use lib.ListN.{length, take, drop, replicate, set}
 use Rattle.bits.specs.Sets.{Has, with, without, first}
 use Rattle.spec.specs.Words.{Rule}
 use Rattle.spec.specs.Summaries.{Summaries}
-use Rattle.choice_theory.specs.Numbered.{Rows}
-use Rattle.choice_theory.specs.Going.{Going}
+use Rattle.choice_theory.specs.Numbered.{RowList}
+use Rattle.choice_theory.specs.Going.{PassState}
 use Rattle.choice_theory.specs.Marked.{Marked}
 use Rattle.task.specs.Task.{Task}
 use Rattle.placing.specs.FirstPlaces.{Enough}
@@ -45,12 +45,12 @@ pub record Tried (t : Task) (b : List ℕ) (row : ℕ) (p after : Pass) : Type 0
   pub result : after ≡ cond answer (taking p row) (passing p row)
 
 -- Underway, at the row `row`: those taken are marked as used, those from `row` on may be.
-pub record UnderwayBy (s : Summaries) (q : Rule ℕ) (rows : Rows) (row : ℕ) (p : Pass) : Type 0 where
-  pub going : Going s q rows (take (p .k) (p .rows)) row (p .left)
+pub record UnderwayBy (s : Summaries) (q : Rule ℕ) (rows : RowList) (row : ℕ) (p : Pass) : Type 0 where
+  pub going : PassState s q rows (take (p .k) (p .rows)) row (p .left)
   pub marked : Marked (length rows) (Has (p .used)) (Has (p .may)) (take (p .k) (p .rows)) row
 
 pub record Underway (t : Task) (b : List ℕ) (n row : ℕ) (p : Pass) : Type 0 where
   pub few : p .k + p .left ≤ 12
   pub long : length (p .rows) ≡ 12
   pub rest : drop (p .k) (p .rows) ≡ replicate (12 - p .k) 0
-  pub by : (s : Summaries) (q : Rule ℕ) (rows : Rows) → PosedBy s q rows t b n → UnderwayBy s q rows row p
+  pub by : (s : Summaries) (q : Rule ℕ) (rows : RowList) → PosedBy s q rows t b n → UnderwayBy s q rows row p

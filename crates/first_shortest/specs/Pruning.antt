@@ -9,7 +9,7 @@ use lib.ListN.{length, getD}
 use Rattle.bits.specs.Sets.{Has, without, Meets}
 use Rattle.spec.specs.Words.{Rule}
 use Rattle.spec.specs.Summaries.{Summaries, inPlace}
-use Rattle.choice_theory.specs.Numbered.{Rows, rowAt}
+use Rattle.choice_theory.specs.Numbered.{RowList, rowAt}
 use Rattle.choice_theory.specs.Can.{CanBy}
 use Rattle.choice_theory.specs.Dominates.{Dominates}
 use Rattle.task.specs.Task.{Task}
@@ -18,7 +18,7 @@ use Rattle.search_meaning.specs.Tasks.{useTask}
 use Rattle.first_shortest.specs.Posed.{Posed}
 
 -- Of n rows: what stands in the table for a row is a set of rows that dominate it. Not all of them need be there.
-pub record Table (s : Summaries) (rows : Rows) (n : ℕ) (dom : List ℕ) : Type 0 where
+pub record Table (s : Summaries) (rows : RowList) (n : ℕ) (dom : List ℕ) : Type 0 where
   pub within : (r d : ℕ) → r < n → Has (getD dom r 0) d → d < n
   pub sound : (r d : ℕ) → r < n → Has (getD dom r 0) d → Dominates s rows d r
 
@@ -35,28 +35,28 @@ pub record Spared (used may over row r : ℕ) : Type 0 where
 
 -- With fewer rows that may be taken the used rows can be completed just as before.
 pub record Pruned (dom : List ℕ) (n used may fewer : ℕ) : Type 0 where
-  pub same : (s : Summaries) (q : Rule ℕ) (rows : Rows) → length rows ≡ n → Table s rows n dom
+  pub same : (s : Summaries) (q : Rule ℕ) (rows : RowList) → length rows ≡ n → Table s rows n dom
       → (b : ℕ) → CanBy s q rows (Has used) (Has may) b ↔ CanBy s q rows (Has used) (Has fewer) b
 
 -- The task from the use of row r to the use of row d, of some sound book's rows.
-pub record UsesBy (s : Summaries) (rows : Rows) (d r : ℕ) (t : Task) : Type 0 where
+pub record UsesBy (s : Summaries) (rows : RowList) (d r : ℕ) (t : Task) : Type 0 where
   pub arities : List ℕ
   pub question : Rule ℕ
   pub bounds : Bounds arities s question
   pub within : RowsWithin s rows
   pub over : d < length rows
   pub under : r < length rows
-  pub words : t ≡ useTask s r (rowAt rows r) d (rowAt rows d) (t .lasts) (t .own)
+  pub codes : t ≡ useTask s r (rowAt rows r) d (rowAt rows d) (t .lasts) (t .own)
   pub marked : length (t .lasts) ≡ length (inPlace s r (rowAt rows r))
   pub owned : length (t .own) ≡ length (inPlace s d (rowAt rows d))
   pub sets : (k : ℕ) → getD (t .own) k 0 < 64
 
 pub record Uses (t : Task) : Type 0 where
   pub summaries : Summaries
-  pub rows : Rows
+  pub rows : RowList
   pub over : ℕ
   pub under : ℕ
   pub by : UsesBy summaries rows over under t
 
 pub record TellsDominance (t : Task) (answer : Bool) : Type 0 where
-  pub exactly : (s : Summaries) (rows : Rows) (d r : ℕ) → UsesBy s rows d r t → (answer ≡ true) ↔ Dominates s rows d r
+  pub exactly : (s : Summaries) (rows : RowList) (d r : ℕ) → UsesBy s rows d r t → (answer ≡ true) ↔ Dominates s rows d r

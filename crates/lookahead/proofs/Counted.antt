@@ -14,18 +14,18 @@ use Rattle.bits.proofs.Laws.{has-none, or-left, or-right, or-cases, same-member
 use Rattle.task.specs.Task.{Task, Sized, goals, targets, rowOf}
 use Rattle.lookahead.specs.declared.reasons.Rows.{Rows}
 use Rattle.lookahead.specs.Outlook.{SameUse, UseEnd, HasTarget, Offers, SlotOf, SlotsOf, memberOf, noWants, Wanting, Most, fairly, vainly}
-use Rattle.lookahead.specs.Seen.{Count, none, counted, passed, NoRowFor, WantsRow, ServedBy, TooMany, WantedSlot, Seen, closed, alone, together, fair}
+use Rattle.lookahead.specs.Seen.{CountBelow, none, counted, passed, NoRowFor, WantsRow, ServedBy, TooManyWant, WantedSlot, Seen, closed, alone, together, fair}
 use Rattle.lookahead.specs.declared.Wants.{Wants}
 use Rattle.lookahead.proofs.Counting.{count-once, count-none, count-to}
 
-pub record Counted (p : Task) (at : ℕ) (b : List ℕ) (rows : Rows) (w : Wants) (i : ℕ) : Type 0 where
+pub record WantsCounted (p : Task) (at : ℕ) (b : List ℕ) (rows : Rows) (w : Wants) (i : ℕ) : Type 0 where
   pub hopeful : (j : ℕ) → j < i → NoRowFor p at b rows j → ⊥
-  pub many : Count (WantsRow p at b rows) i (w .many)
-  pub served : (x : ℕ) → x < 64 → Count (ServedBy p at b rows x) i (getD (w .served) x 0)
+  pub many : CountBelow (WantsRow p at b rows) i (w .many)
+  pub served : (x : ℕ) → x < 64 → CountBelow (ServedBy p at b rows x) i (getD (w .served) x 0)
   pub slots : (x : ℕ) → Has (w .slots) x ↔ ((s : WantedSlot p at b rows x) × (s .i < i))
 
 module _ (p : Task) (at : ℕ) (b : List ℕ) (rows : Rows) where
-  pub counted-start : Counted p at b rows noWants at
+  pub counted-start : WantsCounted p at b rows noWants at
   counted-start =
       record {
         hopeful = λ j h s. absurd (omega (arith, s .same .from));
@@ -65,12 +65,12 @@ module _ (p : Task) (at : ℕ) (b : List ℕ) (rows : Rows) where
       pub served-by : (x : ℕ) → ServedBy p at b rows x i → Has with x
       served-by x s = offered (m .exactly .0 refl) x (inr (s .allowed)) (s .has)
 
-  module _ (w : Wants) (i : ℕ) (q : Counted p at b rows w i) where
+  module _ (w : Wants) (i : ℕ) (q : WantsCounted p at b rows w i) where
     further : (f : NoRowFor p at b rows i → ⊥) (j : ℕ) → j < suc i → NoRowFor p at b rows j → ⊥
     further f j h s = elim (ℕ-discrete j i) [ yes e ↦ f (rw e at s) | no e ↦ q .hopeful j (omega arith) s ]
 
     -- one that wants no row
-    pub counted-next : (NoRowFor p at b rows i → ⊥) → (WantsRow p at b rows i → ⊥) → Counted p at b rows w (i + 1)
+    pub counted-next : (NoRowFor p at b rows i → ⊥) → (WantsRow p at b rows i → ⊥) → WantsCounted p at b rows w (i + 1)
     counted-next f n =
         let e : i + 1 ≡ suc i = omega arith in
         rw e record {
@@ -85,7 +85,7 @@ module _ (p : Task) (at : ℕ) (b : List ℕ) (rows : Rows) where
 
     -- one that does
     module _ (f : NoRowFor p at b rows i → ⊥) (n : WantsRow p at b rows i) (with : ℕ) (is : (x : ℕ) → Has with x ↔ ServedBy p at b rows x i) (slots : ℕ) (s : SlotsOf p i (w .slots) slots) (more : Wants) (g : Wanting w with slots more) where
-      by : (x : ℕ) → x < 64 → Count (ServedBy p at b rows x) (suc i) (getD (more .served) x 0)
+      by : (x : ℕ) → x < 64 → CountBelow (ServedBy p at b rows x) (suc i) (getD (more .served) x 0)
       unfolding Has memberOf
       by x h = elim (ℕ-discrete (memberOf with x) 1) [
         | yes e ↦ let k : getD (more .served) x 0 ≡ suc (getD (w .served) x 0) = omega (arith, g .served x h) in rw k (counted (is x .0 e) (q .served x h))
@@ -95,7 +95,7 @@ module _ (p : Task) (at : ℕ) (b : List ℕ) (rows : Rows) where
       old : (x : ℕ) → (t : WantedSlot p at b rows x) → t .i < i → Has slots x
       old x t h = s .exactly x .1 (inl (q .slots x .1 (t, h)))
 
-      pub counted-more : Counted p at b rows more (i + 1)
+      pub counted-more : WantsCounted p at b rows more (i + 1)
       counted-more =
           let e : i + 1 ≡ suc i = omega arith in
           rw e record {
@@ -108,7 +108,7 @@ module _ (p : Task) (at : ℕ) (b : List ℕ) (rows : Rows) where
             );
           }
 
-module _ (p : Task) (z : Sized p) (at : ℕ) (b : List ℕ) (rows : Rows) (taken : rows .may ≡ 0 → ⊥) (w : Wants) (end i : ℕ) (u : UseEnd (p .lasts) at end) (h : end ≤ i) (q : Counted p at b rows w i) where
+module _ (p : Task) (z : Sized p) (at : ℕ) (b : List ℕ) (rows : Rows) (taken : rows .may ≡ 0 → ⊥) (w : Wants) (end i : ℕ) (u : UseEnd (p .lasts) at end) (h : end ≤ i) (q : WantsCounted p at b rows w i) where
   past : (j : ℕ) → i ≤ j → SameUse (p .lasts) at j → ⊥
   past j l s = omega (arith, u .exactly j .1 s .1)
 
@@ -118,10 +118,10 @@ module _ (p : Task) (z : Sized p) (at : ℕ) (b : List ℕ) (rows : Rows) (taken
   none-hopeless : (j : ℕ) → NoRowFor p at b rows j → ⊥
   none-hopeless j s = q .hopeful j (omega (arith, u .exactly j .1 (s .same) .1)) s
 
-  want : Count (WantsRow p at b rows) (goals p) (w .many)
+  want : CountBelow (WantsRow p at b rows) (goals p) (w .many)
   want = count-to _ i (goals p) (w .many) (λ j l s. past j l (s .same)) (λ j l s. gone j l (s .same)) (q .many)
 
-  serve : (x : ℕ) → x < 64 → Count (ServedBy p at b rows x) (goals p) (getD (w .served) x 0)
+  serve : (x : ℕ) → x < 64 → CountBelow (ServedBy p at b rows x) (goals p) (getD (w .served) x 0)
   serve x l = count-to _ i (goals p) (getD (w .served) x 0) (λ j m s. past j m (s .wants .same)) (λ j m s. gone j m (s .wants .same)) (q .served x l)
 
   pub seen-together : (m : ℕ) → Most (w .served) m → rows .left * m < w .many → Seen p at b rows (vainly (w .slots) true)
@@ -139,6 +139,6 @@ module _ (p : Task) (z : Sized p) (at : ℕ) (b : List ℕ) (rows : Rows) (taken
       fair taken none-hopeless
       (λ t. let x = y .one in l (omega (arith, count-once _ (goals p) (t .many) (w .many) (t .want) want, t .each (x .0) m (x .1) (rw (sym (x .2)) (serve (x .0) (x .1))))))
 
-pub seen-alone : (p : Task) (at : ℕ) (b : List ℕ) (rows : Rows) (taken : rows .may ≡ 0 → ⊥) (w : Wants) (i : ℕ) → Counted p at b rows w i → NoRowFor p at b rows i → (slots : ℕ) → SlotsOf p i 0 slots → Seen p at b rows (vainly slots false)
+pub seen-alone : (p : Task) (at : ℕ) (b : List ℕ) (rows : Rows) (taken : rows .may ≡ 0 → ⊥) (w : Wants) (i : ℕ) → WantsCounted p at b rows w i → NoRowFor p at b rows i → (slots : ℕ) → SlotsOf p i 0 slots → Seen p at b rows (vainly slots false)
 seen-alone p at b rows taken w i q s slots o =
     alone taken i slots s (q .hopeful) (λ x. (λ h. ⊎-elim (λ n. absurd (has-none x n)) (λ y. y) (o .exactly x .0 h), λ y. o .exactly x .1 (inr y)))

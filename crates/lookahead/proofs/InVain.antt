@@ -17,11 +17,11 @@ use Rattle.lookahead.specs.Taking.{Affords, Open}
 use Rattle.task.specs.Mapped.{InRows}
 use Rattle.lookahead.specs.Failure.{AgreesOn, Failed}
 use Rattle.task.specs.Terms.{stood}
-use Rattle.lookahead.specs.Outlook.{UseEnd, Suits, HasTarget, Readable, Offers, SlotOf, SlotsOf, memberOf, Steady, Wanting, Most, noWants, fairly, vainly}
+use Rattle.lookahead.specs.Outlook.{UseEnd, SuitsTarget, HasTarget, Readable, Offers, SlotOf, SlotsOf, memberOf, Steady, Wanting, Most, noWants, fairly, vainly}
 use Rattle.lookahead.specs.Seen.{Seen, Outlooks}
 use Rattle.lookahead.specs.declared.reasons.Rows.{Rows}
 use Rattle.lookahead.specs.declared.Wants.{Wants}
-use Rattle.task.proofs.Slots.{value-word, stood-word, stood-value}
+use Rattle.task.proofs.Slots.{value-code, stood-code, stood-value}
 use Rattle.lookahead.proofs.Taken.{affords-rows}
 use Rattle.lookahead.proofs.Total.{total, total-more, total-most}
 use Rattle.lookahead.proofs.Looking.{member-small}
@@ -43,13 +43,13 @@ landing p (suc n) at (suc i) v (k ∷ l) h s (put {w = w} q a c r) =
     rw z (record { k = d .k; inside = List·Memᴰ·tail (d .inside); within = d .within; agrees = subst (λ f. Agrees p f (suc at + i) (d .k)) (fun-ext (c .stays (s at (omega arith) (omega arith)))) (d .agrees) })
 
 -- what values that agree with the bindings on its slots send it to, it may still become
-suits : (p : Task) (b : List ℕ) (i k slots : ℕ) (v : ℕ → ℕ) → AgreesOn b slots v → ((a : ℕ) → a < widthOf p i → sourceTerm p i a < 64 → Has slots (sourceTerm p i a)) → Agrees p v i k → Suits p b i k
+suits : (p : Task) (b : List ℕ) (i k slots : ℕ) (v : ℕ → ℕ) → AgreesOn b slots v → ((a : ℕ) → a < widthOf p i → sourceTerm p i a < 64 → Has slots (sourceTerm p i a)) → Agrees p v i k → SuitsTarget p b i k
 suits p b i k slots v on has g = record { relation = g .relation; terms = λ a h n. sym (same a h n) ∙ g .terms a h }
   where
     same : (a : ℕ) → a < widthOf p i → (stood b (sourceTerm p i a) ≡ 0 → ⊥) → valueOf v (sourceTerm p i a) ≡ stood b (sourceTerm p i a)
     same a h n = elim (decLt (sourceTerm p i a) 64) [
       | yes x ↦ stood-value b v (sourceTerm p i a) (on (sourceTerm p i a) (has a h x)) n
-      | no x ↦ let y : 64 ≤ sourceTerm p i a = omega arith in value-word v (sourceTerm p i a) y ∙ sym (stood-word b (sourceTerm p i a) y)
+      | no x ↦ let y : 64 ≤ sourceTerm p i a = omega arith in value-code v (sourceTerm p i a) y ∙ sym (stood-code b (sourceTerm p i a) y)
     ]
 
 -- where a use ends says nothing of what a subgoal may become
@@ -120,7 +120,7 @@ module _ (p : Task) (z : Sized p) (at end : ℕ) (u : UseEnd (p .lasts) at end) 
     k : ℕ
     inside : k ∈ l
     within : k < targets p
-    fits : Suits p b i k
+    fits : SuitsTarget p b i k
 
   sent : (i : ℕ) → at ≤ i → i < end → (set slots : ℕ) → SlotsOf p i set slots → (v : ℕ → ℕ) (l : List ℕ) → AgreesOn b slots v → Completes p (goals p - at) at v l → Sent i l
   sent i h j set slots s v l on c =

@@ -15,23 +15,23 @@ use Rattle.bits.specs.Sets.{Has, has, with}
 use Rattle.bits.proofs.Laws.{has-true, true-has, has-none, with-new, with-old, with-cases}
 use Rattle.task.specs.Task.{Task, targets, sourceRelation, targetRelation, sourceTerm, targetTerm, widthOf, rowOf}
 use Rattle.task.specs.Terms.{stood, noting}
-use Rattle.lookahead.specs.Outlook.{SameUse, UseEnd, MayBecome, Clashes, Suits, HasTarget, Offered, Offers, SlotOf, SlotsOf, memberOf, Steady, Wanting, Most}
+use Rattle.lookahead.specs.Outlook.{SameUse, UseEnd, MayBecome, Clashes, SuitsTarget, HasTarget, Offered, Offers, SlotOf, SlotsOf, memberOf, Steady, Wanting, Most}
 use Rattle.lookahead.specs.declared.Wants.{Wants}
 use Rattle.task.proofs.Slots.{noting-new, noting-old, noting-cases}
 
 -- no use ends from at up to i
-pub record Going (lasts : List ℕ) (at i : ℕ) : Type 0 where
+pub record UseGoesOn (lasts : List ℕ) (at i : ℕ) : Type 0 where
   pub from : at ≤ i
   pub on : (j : ℕ) → at ≤ j → j < i → getD lasts j 0 ≡ 0
 
 module _ (lasts : List ℕ) (at : ℕ) where
-  pub going-start : Going lasts at at
+  pub going-start : UseGoesOn lasts at at
   going-start = record { from = omega arith; on = λ j h k. absurd (omega arith) }
 
-  pub going-more : (i : ℕ) → Going lasts at i → getD lasts i 0 ≡ 0 → Going lasts at (i + 1)
+  pub going-more : (i : ℕ) → UseGoesOn lasts at i → getD lasts i 0 ≡ 0 → UseGoesOn lasts at (i + 1)
   going-more i g e = record { from = omega (arith, g .from); on = λ j h k. elim (ℕ-discrete j i) [ yes q ↦ rw q e | no q ↦ g .on j h (omega arith) ] }
 
-  pub going-ends : (i : ℕ) → i < length lasts → Going lasts at i → (getD lasts i 0 ≡ 0 → ⊥) → UseEnd lasts at (i + 1)
+  pub going-ends : (i : ℕ) → i < length lasts → UseGoesOn lasts at i → (getD lasts i 0 ≡ 0 → ⊥) → UseEnd lasts at (i + 1)
   going-ends i h g n =
       record {
         exactly = λ j. (
@@ -40,10 +40,10 @@ module _ (lasts : List ℕ) (at : ℕ) where
         );
       }
 
-  pub going-whole : (i : ℕ) → length lasts ≤ i → Going lasts at i → UseEnd lasts at (length lasts)
+  pub going-whole : (i : ℕ) → length lasts ≤ i → UseGoesOn lasts at i → UseEnd lasts at (length lasts)
   going-whole i h g = record { exactly = λ j. (λ r. record { from = r .0; there = r .1; one = λ k l m. g .on k l (omega (arith, r .1)) }, λ u. (u .from, u .there)) }
 
--- a bound term, held against a word
+-- a bound term, held against a code
 pub clash-known : (b : List ℕ) (x y have : ℕ) → have ≡ stood b x → (have ≡ 0 → ⊥) → (r : Bool) → r ≡ eqb have y → Clashes b x y (not r)
 clash-known b x y have e n r q = record { exactly = (λ f g. sym e ∙ eqb-true have y (sym q ∙ not-false r f), λ f. ap not (q ∙ eq-eqb have y (e ∙ f (λ z. n (e ∙ z))))) }
 
@@ -80,7 +80,7 @@ offered-as p b allowed i k r s = subst (Offered p b allowed i k)
 -- the rows, of those before k, with a target for the source subgoal i
 pub record Offering (p : Task) (b : List ℕ) (allowed i k rows : ℕ) : Type 0 where
   pub only : (x : ℕ) → Has rows x → Has allowed x × HasTarget p b i x
-  pub each : (j : ℕ) → j < k → Has allowed (rowOf p j) → Suits p b i j → Has rows (rowOf p j)
+  pub each : (j : ℕ) → j < k → Has allowed (rowOf p j) → SuitsTarget p b i j → Has rows (rowOf p j)
 
 module _ (p : Task) (b : List ℕ) (allowed i : ℕ) where
   pub offering-start : Offering p b allowed i 0 0

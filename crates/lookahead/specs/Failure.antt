@@ -10,7 +10,7 @@ use Rattle.lookahead.specs.Taking.{Affords, Open}
 use Rattle.lookahead.specs.declared.reasons.Reasons.{Reasons}
 use Rattle.lookahead.specs.declared.reasons.Rows.{Rows}
 
--- v gives the bound slots among those of the set their words
+-- v gives the bound slots among those of the set their codes
 abbrev pub AgreesOn : List ℕ → ℕ → (ℕ → ℕ) → Type 0
 AgreesOn b set v = (x : ℕ) → Has set x → (getD b x 0 ≡ 0 → ⊥) → v x ≡ getD b x 0
 

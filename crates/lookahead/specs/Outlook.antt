@@ -31,11 +31,11 @@ pub record Clashes (b : List ℕ) (x y : ℕ) (answer : Bool) : Type 0 where
   pub exactly : (answer ≡ false) ↔ MayBecome b x y
 
 -- the source subgoal i may still become the target k
-pub record Suits (p : Task) (b : List ℕ) (i k : ℕ) : Type 0 where
+pub record SuitsTarget (p : Task) (b : List ℕ) (i k : ℕ) : Type 0 where
   pub relation : targetRelation p k ≡ sourceRelation p i
   pub terms : (a : ℕ) → a < widthOf p i → MayBecome b (sourceTerm p i a) (targetTerm p k a)
 
--- What is to hold where the source subgoal i is compared: it is there, and so are the words of all targets.
+-- What is to hold where the source subgoal i is compared: it is there, and so are the codes of all targets.
 pub record Readable (p : Task) (i : ℕ) : Type 0 where
   pub there : i < goals p
   pub narrow : widthOf p i ≤ 8
@@ -45,19 +45,19 @@ pub record Readable (p : Task) (i : ℕ) : Type 0 where
   pub rows : (k : ℕ) → rowOf p k < 64
 
 pub record Offered (p : Task) (b : List ℕ) (allowed i k : ℕ) (answer : Bool) : Type 0 where
-  pub exactly : (answer ≡ true) ↔ (Has allowed (rowOf p k) × Suits p b i k)
+  pub exactly : (answer ≡ true) ↔ (Has allowed (rowOf p k) × SuitsTarget p b i k)
 
 -- the row x has a target that the source subgoal i may still become
 pub record HasTarget (p : Task) (b : List ℕ) (i x : ℕ) : Type 0 where
   pub k : ℕ
   pub within : k < targets p
   pub row : rowOf p k ≡ x
-  pub fits : Suits p b i k
+  pub fits : SuitsTarget p b i k
 
 -- rows of the set `allowed` with a target for the source subgoal i: all of them, unless one that is in use is among them
 pub record Offers (p : Task) (b : List ℕ) (used allowed i rows : ℕ) : Type 0 where
   pub only : (x : ℕ) → Has rows x → Has allowed x × HasTarget p b i x
-  pub each : ((x : ℕ) → Has rows x → Has used x → ⊥) → (k : ℕ) → k < targets p → Has allowed (rowOf p k) → Suits p b i k → Has rows (rowOf p k)
+  pub each : ((x : ℕ) → Has rows x → Has used x → ⊥) → (k : ℕ) → k < targets p → Has allowed (rowOf p k) → SuitsTarget p b i k → Has rows (rowOf p k)
 
 -- x is a slot of the source subgoal i
 pub record SlotOf (p : Task) (i x : ℕ) : Type 0 where

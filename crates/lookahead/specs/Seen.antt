@@ -12,10 +12,10 @@ use Rattle.lookahead.specs.Outlook.{SameUse, HasTarget, SlotOf, fairly, 
 use Rattle.lookahead.specs.declared.Outlook.{Outlook}
 
 -- n of the numbers below m are such
-pub data Count (P : ℕ → Type 0) : ℕ → ℕ → Type 0 where
-  none : Count P 0 0
-  counted : {m n : ℕ} → P m → Count P m n → Count P (suc m) (suc n)
-  passed : {m n : ℕ} → (P m → ⊥) → Count P m n → Count P (suc m) n
+pub data CountBelow (P : ℕ → Type 0) : ℕ → ℕ → Type 0 where
+  none : CountBelow P 0 0
+  counted : {m n : ℕ} → P m → CountBelow P m n → CountBelow P (suc m) (suc n)
+  passed : {m n : ℕ} → (P m → ⊥) → CountBelow P m n → CountBelow P (suc m) n
 
 -- no row that is in use or may be taken has a target for the source subgoal i
 pub record NoRowFor (p : Task) (at : ℕ) (b : List ℕ) (rows : Rows) (i : ℕ) : Type 0 where
@@ -34,10 +34,10 @@ pub record ServedBy (p : Task) (at : ℕ) (b : List ℕ) (rows : Rows) (x i : �
   pub has : HasTarget p b i x
 
 -- More want a row than those left could serve, if each served as many as any one row does.
-pub record TooMany (p : Task) (at : ℕ) (b : List ℕ) (rows : Rows) : Type 0 where
+pub record TooManyWant (p : Task) (at : ℕ) (b : List ℕ) (rows : Rows) : Type 0 where
   pub many : ℕ
-  pub want : Count (WantsRow p at b rows) (goals p) many
-  pub each : (x n : ℕ) → x < 64 → Count (ServedBy p at b rows x) (goals p) n → rows .left * n < many
+  pub want : CountBelow (WantsRow p at b rows) (goals p) many
+  pub each : (x n : ℕ) → x < 64 → CountBelow (ServedBy p at b rows x) (goals p) n → rows .left * n < many
 
 -- x is a slot of a source subgoal that wants a row
 pub record WantedSlot (p : Task) (at : ℕ) (b : List ℕ) (rows : Rows) (x : ℕ) : Type 0 where
@@ -51,8 +51,8 @@ pub data Seen (p : Task) (at : ℕ) (b : List ℕ) (rows : Rows) : Outlook → T
   -- the first without hope; its slots are to blame
   alone : (rows .may ≡ 0 → ⊥) → (i slots : ℕ) → NoRowFor p at b rows i → ((j : ℕ) → j < i → NoRowFor p at b rows j → ⊥) → ((x : ℕ) → Has slots x ↔ SlotOf p i x) → Seen p at b rows (vainly slots false)
   -- none is without hope, but they are too many together; the slots of all that want a row are to blame
-  together : (rows .may ≡ 0 → ⊥) → (slots : ℕ) → ((i : ℕ) → NoRowFor p at b rows i → ⊥) → TooMany p at b rows → ((x : ℕ) → Has slots x ↔ WantedSlot p at b rows x) → Seen p at b rows (vainly slots true)
-  fair : (rows .may ≡ 0 → ⊥) → ((i : ℕ) → NoRowFor p at b rows i → ⊥) → (TooMany p at b rows → ⊥) → Seen p at b rows fairly
+  together : (rows .may ≡ 0 → ⊥) → (slots : ℕ) → ((i : ℕ) → NoRowFor p at b rows i → ⊥) → TooManyWant p at b rows → ((x : ℕ) → Has slots x ↔ WantedSlot p at b rows x) → Seen p at b rows (vainly slots true)
+  fair : (rows .may ≡ 0 → ⊥) → ((i : ℕ) → NoRowFor p at b rows i → ⊥) → (TooManyWant p at b rows → ⊥) → Seen p at b rows fairly
 
 pub record Outlooks (p : Task) (at : ℕ) (b : List ℕ) (rows : Rows) (r : Outlook) : Type 0 where
   pub seen : Seen p at b rows r

@@ -78,7 +78,7 @@ fn use_end(lasts: &[u8], at: usize) -> usize
     lasts.len()
 }
 
-// Whether the term is bound, and to another word.
+// Whether the term is bound, and to another code.
 fn clashes(b: &[u64; SLOTS], x: u64, y: u64) -> bool
     ensures { λ r. ⌜ Clashes (now (b .entry)) x y r ⌝ }
 {

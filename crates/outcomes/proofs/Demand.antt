@@ -19,7 +19,7 @@ use Rattle.spec.specs.BookLayout.{SoundBook}
 use Rattle.spec.proofs.Bytes.BookUnique.{book-unique}
 use Rattle.spec.specs.Refusals.{ofBook}
 use Rattle.spec.proofs.Bytes.Refused.{sound-unrefused}
-use Rattle.spec.specs.Table.{Refused, read, nine, ten, Fault9, Fault10}
+use Rattle.spec.specs.Table.{RewriterRefusal, read, nine, ten, Fault9, Fault10}
 use Rattle.spec.specs.Given.{Given}
 use Rattle.outcomes.proofs.Grants.{value-granted}
 
@@ -62,11 +62,11 @@ module _ {book other : List ℕ} {b c : Book} (sound : SoundBook book b) (also :
   pub moved-back : (P : Summaries → Rule ℕ → Type 0) → P (admittedOf c) (c .question) → P (admittedOf b) (b .question)
   moved-back P p = subst (λ s. P s (b .question)) (sym (left-out-alike b c need h)) (subst (λ q. P (admittedOf c) q) (sym question) p)
 
-  pub left-out-nine : Refused book answer witness (ofBook 9) → Refused other answer witness (ofBook 9)
+  pub left-out-nine : RewriterRefusal book answer witness (ofBook 9) → RewriterRefusal other answer witness (ofBook 9)
   left-out-nine (read room r) = absurd (sound-unrefused sound r)
   left-out-nine (nine room v s f) = nine room c also (moved Fault9 (subst (λ v. Fault9 (admittedOf v) (v .question)) (book-unique s sound) f))
 
-  pub left-out-ten : Refused book answer witness (ofBook 10) → Refused other answer witness (ofBook 10)
+  pub left-out-ten : RewriterRefusal book answer witness (ofBook 10) → RewriterRefusal other answer witness (ofBook 10)
   left-out-ten (read room r) = absurd (sound-unrefused sound r)
   left-out-ten (ten room v s few never) =
       ten room c also (λ f. few (subst (λ v. Fault9 (admittedOf v) (v .question)) (sym (book-unique s sound)) (moved-back Fault9 f))) (moved Fault10 (subst (λ v. Fault10 (admittedOf v) (v .question)) (book-unique s sound) never))

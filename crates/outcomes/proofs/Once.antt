@@ -11,7 +11,7 @@ use Rattle.spec.specs.declared.Reason.{Reason}
 use Rattle.spec.proofs.Bytes.BookUnique.{book-unique}
 use Rattle.spec.proofs.Bytes.RefusedOnce.{refused-once}
 use Rattle.spec.proofs.Bytes.Refused.{sound-unrefused}
-use Rattle.spec.specs.Table.{Fault1, Fault9, Fault10, Refused, one, read, nine, ten}
+use Rattle.spec.specs.Table.{Fault1, Fault9, Fault10, RewriterRefusal, one, read, nine, ten}
 use Rattle.spec.specs.Given.{Given}
 
 module _ (book : List ℕ) (answer witness : ℕ) where
@@ -24,13 +24,13 @@ module _ (book : List ℕ) (answer witness : ℕ) where
   same-value : (b c : Book) → SoundBook book b → SoundBook book c → b ≡ c
   same-value b c s t = book-unique s t
 
-  pub given-unrefused : {r : Reason} → Given book answer witness → Refused book answer witness r → ⊥
+  pub given-unrefused : {r : Reason} → Given book answer witness → RewriterRefusal book answer witness r → ⊥
   given-unrefused g (one f) = g .room f
   given-unrefused g (read f r) = sound-unrefused (g .sound) r
   given-unrefused g (nine f b s n) = g .few (subst (λ c. Fault9 (admittedOf c) (c .question)) (same-value b (g .value) s (g .sound)) n)
   given-unrefused g (ten f b s n t) = subst (λ c. Fault10 (admittedOf c) (c .question)) (same-value b (g .value) s (g .sound)) t (g .result .rows) (g .right .answers .holds)
 
-  pub refused-same : {r s : Reason} → Refused book answer witness r → Refused book answer witness s → r ≡ s
+  pub refused-same : {r s : Reason} → RewriterRefusal book answer witness r → RewriterRefusal book answer witness s → r ≡ s
   refused-same (one f) (one g) = refl
   refused-same (one f) (read g r) = absurd (g f)
   refused-same (one f) (nine g b s n) = absurd (g f)

@@ -20,7 +20,7 @@ use Rattle.spec.specs.declared.Reason.{Reason}
 use Rattle.spec.specs.Refusals.{ofBook}
 use Rattle.spec.proofs.Bytes.Refused.{sound-or-refused}
 use Rattle.spec.proofs.Bytes.Refused as reading
-use Rattle.spec.specs.Table.{mostRows, answerRoom, witnessRoom, Fault1, Fault9, Refused, one, read, nine, ten}
+use Rattle.spec.specs.Table.{mostRows, answerRoom, witnessRoom, Fault1, Fault9, RewriterRefusal, one, read, nine, ten}
 use Rattle.spec.specs.Given.{Given}
 use Rattle.outcomes.proofs.Grants.{value-safe}
 
@@ -32,10 +32,10 @@ fault-9 s q safe = (
 )
 
 module _ (book : List ℕ) (bytes : Bytes book) (answer witness : ℕ) where
-  abbrev pub Told : Type 0
-  Told = Given book answer witness ⊎ ((r : Reason) × Refused book answer witness r)
+  abbrev pub GivenOrRefused : Type 0
+  GivenOrRefused = Given book answer witness ⊎ ((r : Reason) × RewriterRefusal book answer witness r)
 
-  sound-told : (Fault1 answer witness → ⊥) → (b : Book) → SoundBook book b → Told
+  sound-told : (Fault1 answer witness → ⊥) → (b : Book) → SoundBook book b → GivenOrRefused
   sound-told room b s = go (decLt mostRows (length (allRows (admittedOf b) (b .question)))) (any-decided (admittedOf b) (b .question) safe)
     where
       safe : AllSafe (admittedOf b)
@@ -44,7 +44,7 @@ module _ (book : List ℕ) (bytes : Bytes book) (answer witness : ℕ) where
       few : (mostRows < length (allRows (admittedOf b) (b .question)) → ⊥) → Fault9 (admittedOf b) (b .question) → ⊥
       few n f = n (fault-9 (admittedOf b) (b .question) safe .0 f)
 
-      go : Dec (mostRows < length (allRows (admittedOf b) (b .question))) → Dec ((l : List (Subgoal (Term ℕ))) × Rewrites (admittedOf b) (b .question) l) → Told
+      go : Dec (mostRows < length (allRows (admittedOf b) (b .question))) → Dec ((l : List (Subgoal (Term ℕ))) × Rewrites (admittedOf b) (b .question) l) → GivenOrRefused
       go (yes many) d = inr (ofBook 9, nine room b s (fault-9 (admittedOf b) (b .question) safe .1 many))
       go (no n) (no never) = inr (ofBook 10, ten room b s (few n) (λ l r. never (l, r)))
       go (no n) (yes w) = let r = right-exists (admittedOf b) (b .question) safe (w .0) (w .1) in inl record { room = room; value = b; sound = s; few = few n; result = r .0; right = r .1 }
@@ -57,10 +57,10 @@ module _ (book : List ℕ) (bytes : Bytes book) (answer witness : ℕ) where
       go (no a) (yes w) = yes (inr w)
       go (no a) (no w) = no (⊎-elim a w)
 
-  pub told : Told
+  pub told : GivenOrRefused
   told = go room-decided (sound-or-refused book bytes)
     where
-      go : Dec (Fault1 answer witness) → ((b : Book) × SoundBook book b) ⊎ reading.Refused book → Told
+      go : Dec (Fault1 answer witness) → ((b : Book) × SoundBook book b) ⊎ reading.SomeRefusal book → GivenOrRefused
       go (yes f) d = inr (ofBook 1, one f)
       go (no n) (inl s) = sound-told n (s .0) (s .1)
       go (no n) (inr r) = inr (r .0, read n (r .1))

@@ -14,7 +14,7 @@ use Rattle.task.specs.Task.{Task, goals, targets, targetRelation, sourceRelatio
 use Rattle.lookahead.specs.Taking.{Enters, leftAfter, Affords, Open}
 use Rattle.placing.specs.FirstPlaces.{laid}
 use Rattle.lookahead.specs.Failure.{AgreesOn, Failed}
-use Rattle.placing.specs.Answer.{Afforded, Answer}
+use Rattle.placing.specs.Answer.{Afforded, SearchSays}
 use Rattle.task.specs.Completion.{Completion}
 use Rattle.lookahead.specs.Steps.{Entering, Hopeless, Settled, entering, seeing}
 use Rattle.task.specs.Terms.{Opened}
@@ -31,11 +31,11 @@ use Rattle.lookahead.proofs.Taken.{affords-free}
 use Rattle.placing.proofs.Laid.{laid-none, laid-put}
 use Rattle.placing.proofs.ReasonsCarried.{carry}
 use Rattle.task.proofs.Onward.{step, after, onward}
-use Rattle.placing.proofs.Refuted.{Way, Refuted}
+use Rattle.placing.proofs.Refuted.{WayOn, Refuted}
 
 module _ (p : Task) (at : ℕ) (b : List ℕ) (rows : Rows) (more : at < goals p) where
   -- every target is passed over
-  pub answer-none : (why : Reasons) (m : ℕ) → targets p ≤ m → Refuted p at b rows why m → Answer p at b rows (failed why)
+  pub answer-none : (why : Reasons) (m : ℕ) → targets p ≤ m → Refuted p at b rows why m → SearchSays p at b rows (failed why)
   unfolding Refuted
   answer-none why m h ref = record { found = λ e. absurd (false≢true e); none = λ e. record { never = never } }
     where
@@ -100,7 +100,7 @@ module _ (p : Task) (at : ℕ) (b : List ℕ) (rows : Rows) (more : at < goals p
       first-here = record { holds = here; least = least }
 
     -- what settles the search: the places found, or the jump
-    module _ (below : Placed) (a : Answer p (suc at) h (entering rows (rowOf p k)) below) (why : Reasons) (i : k < targets p) (rel : targetRelation p k ≡ sourceRelation p at) (e : Enters (rows .used) (rows .may) (rows .left) (rowOf p k)) (ref : Refuted p at b rows why k) where
+    module _ (below : Placed) (a : SearchSays p (suc at) h (entering rows (rowOf p k)) below) (why : Reasons) (i : k < targets p) (rel : targetRelation p k ≡ sourceRelation p at) (e : Enters (rows .used) (rows .may) (rows .left) (rowOf p k)) (ref : Refuted p at b rows why k) where
       got : below .ok ≡ true → (l : List ℕ) × (set (below .ks) at k ≡ laid at l) × First (Afforded p at b rows) (ListBefore _<_) l
       got y = let f = a .found y in (k ∷ f .0, ap (λ r. set r at k) (f .1) ∙ laid-put at k (f .0), first-here why i rel e ref (f .0) (f .2))
 
@@ -109,22 +109,22 @@ module _ (p : Task) (at : ℕ) (b : List ℕ) (rows : Rows) (more : at < goals p
         lost n (inl y) = absurd (true≢false (sym y ∙ n))
         lost n (inr y) = jump (below .why) (a .none n) free u y
 
-        pub answer-settled : (r : Placed) → r ≡ carrying below at k (lastOf p at) → (s : Bool) → Settled (r .ok) (r .why) new free s → s ≡ true → Answer p at b rows r
+        pub answer-settled : (r : Placed) → r ≡ carrying below at k (lastOf p at) → (s : Bool) → Settled (r .ok) (r .why) new free s → s ≡ true → SearchSays p at b rows r
         answer-settled r q s c t = rw q (record { found = got; none = λ n. lost n ((rw q at c) .exactly .0 t) })
 
--- the answer below, in the words of this subgoal
-pub answer-below : (p : Task) (at : ℕ) (h : List ℕ) (rows : Rows) (k : ℕ) (e : Entered) → Entering rows (rowOf p k) e → (r : Placed) → Answer p (at + 1) h (e .rows) r → Answer p (suc at) h (entering rows (rowOf p k)) r
+-- the answer below, in the codes of this subgoal
+pub answer-below : (p : Task) (at : ℕ) (h : List ℕ) (rows : Rows) (k : ℕ) (e : Entered) → Entering rows (rowOf p k) e → (r : Placed) → SearchSays p (at + 1) h (e .rows) r → SearchSays p (suc at) h (entering rows (rowOf p k)) r
 answer-below p at h rows k e n r a = rw (add-one at, n .after) at a
 
 -- seen to be in vain
-pub answer-vain : (p : Task) (at : ℕ) (b : List ℕ) (rows : Rows) (o : Outlook) → Outlooks p at b rows o → o .vain ≡ true → Answer p at b rows (failed (o .why))
+pub answer-vain : (p : Task) (at : ℕ) (b : List ℕ) (rows : Rows) (o : Outlook) → Outlooks p at b rows o → o .vain ≡ true → SearchSays p at b rows (failed (o .why))
 answer-vain p at b rows o s v = record { found = λ e. absurd (false≢true e); none = λ e. s .vain v }
 
 -- nothing is left to place
 only-none : (p : Task) (at : ℕ) (v : ℕ → ℕ) (js : List ℕ) → Completes p zero at v js → [] ≡ js
 only-none p at v js done = refl
 
-pub answer-end : (p : Task) (at : ℕ) (b : List ℕ) (rows : Rows) → goals p ≤ at → at ≤ 96 → Answer p at b rows found
+pub answer-end : (p : Task) (at : ℕ) (b : List ℕ) (rows : Rows) → goals p ≤ at → at ≤ 96 → SearchSays p at b rows found
 answer-end p at b rows h k = record { found = λ e. ([], laid-none at k, first); none = λ e. absurd (true≢false e) }
   where
     over : goals p - at ≡ 0

@@ -23,7 +23,7 @@ use Rattle.placing.proofs.Open.{open-with, open-tail}
 use Rattle.placing.proofs.ReasonsCarried.{carry}
 
 -- a way on from the source subgoal at, over the target k, that the reasons do not rule out
-pub record Way (p : Task) (at : ℕ) (b : List ℕ) (rows : Rows) (why : Reasons) (k : ℕ) : Type 0 where
+pub record WayOn (p : Task) (at : ℕ) (b : List ℕ) (rows : Rows) (why : Reasons) (k : ℕ) : Type 0 where
   pub v : ℕ → ℕ
   pub w : ℕ → ℕ
   pub l : List ℕ
@@ -36,7 +36,7 @@ pub record Way (p : Task) (at : ℕ) (b : List ℕ) (rows : Rows) (why : Reasons
 
 -- there is none over a target before next
 unfoldable pub Refuted : Task → ℕ → List ℕ → Rows → Reasons → ℕ → Type 0
-Refuted p at b rows why next = (k : ℕ) → k < next → Way p at b rows why k → ⊥
+Refuted p at b rows why next = (k : ℕ) → k < next → WayOn p at b rows why k → ⊥
 
 -- the one has the other's reasons, and perhaps more
 record Grows (why more : Reasons) : Type 0 where
@@ -49,7 +49,7 @@ module _ (p : Task) (at : ℕ) (b : List ℕ) (rows : Rows) where
   refuted-start why k i = absurd (omega arith)
 
   -- one target more, and perhaps more reasons
-  refuted-more : (why more : Reasons) (k : ℕ) → Grows why more → (Way p at b rows more k → ⊥) → Refuted p at b rows why k → Refuted p at b rows more (k + 1)
+  refuted-more : (why more : Reasons) (k : ℕ) → Grows why more → (WayOn p at b rows more k → ⊥) → Refuted p at b rows why k → Refuted p at b rows more (k + 1)
   unfolding Refuted
   refuted-more why more k i f r j l c = elim (decLt j k) [
     | yes o ↦ r j o (record { v = c .v; w = c .w; l = c .l; agreesOn = λ x m. c .agreesOn x (i .slots x m); agrees = c .agrees; linked = c .linked; rest = c .rest; allowed = c .allowed; affords = λ s. c .affords (i .short s) })

@@ -13,7 +13,7 @@ use Rattle.task.specs.Task.{Task, Sized, rowOf}
 use Rattle.lookahead.specs.Taking.{Affords}
 use Rattle.placing.specs.FirstPlaces.{laid, FirstPlaces, Enough}
 use Rattle.task.specs.Mapped.{Mapped, Feasible}
-use Rattle.placing.specs.Answer.{Afforded, Answer, PlacesFrom}
+use Rattle.placing.specs.Answer.{Afforded, SearchSays, PlacesFrom}
 use Rattle.task.specs.Completion.{Completion}
 use Rattle.lookahead.specs.Steps.{rowsOf}
 use Rattle.lookahead.specs.declared.reasons.Rows.{Rows}
@@ -29,13 +29,13 @@ first-alike : {A : Type 0} {P Q : A → Type 0} {Before : A → A → Type 0} �
 first-alike to back a f = record { holds = to a (f .holds); least = λ b h. f .least b (back b h) }
 
 -- a failure leaves nothing that the rows allow
-none-afforded : (p : Task) (at : ℕ) (b : List ℕ) (rows : Rows) (r : Placed) → Answer p at b rows r → r .ok ≡ false → (l : List ℕ) → Afforded p at b rows l → ⊥
+none-afforded : (p : Task) (at : ℕ) (b : List ℕ) (rows : Rows) (r : Placed) → SearchSays p at b rows r → r .ok ≡ false → (l : List ℕ) → Afforded p at b rows l → ⊥
 none-afforded p at b rows r a n l c =
     let d = c .completion in
     a .none n .never (d .val) l (λ x h. d .extends x) (d .completes) (affords-open p (rows .used) (rows .may) (rows .left) l (c .affords)) (λ s. c .affords)
 
 -- with every row in use the rows allow everything
-module _ (p : Task) (z : Sized p) (at : ℕ) (b : List ℕ) (r : Placed) (a : Answer p at b (rowsOf 18446744073709551615 0 0) r) where
+module _ (p : Task) (z : Sized p) (at : ℕ) (b : List ℕ) (r : Placed) (a : SearchSays p at b (rowsOf 18446744073709551615 0 0) r) where
   allowed : (l : List ℕ) → Affords p 18446744073709551615 0 0 l
   allowed = affords-used p 18446744073709551615 0 0 (λ k. all-has (rowOf p k) (z .rows k))
 
@@ -54,7 +54,7 @@ places-mapped p b r f =
       none = λ n. let g = f .none n in (g .0, λ l m. g .1 l (mapped-completion p b l m));
     }
 
-pub answer-enough : (p : Task) (b : List ℕ) (used may left : ℕ) (r : Placed) → Answer p 0 b (rowsOf used may left) r → Enough p b used may left (r .ok)
+pub answer-enough : (p : Task) (b : List ℕ) (used may left : ℕ) (r : Placed) → SearchSays p 0 b (rowsOf used may left) r → Enough p b used may left (r .ok)
 answer-enough p b used may left r a = record { exactly = (some, every (r .ok) refl) }
   where
     some : r .ok ≡ true → Feasible p b used may left

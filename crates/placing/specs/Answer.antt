@@ -18,7 +18,7 @@ pub record Afforded (p : Task) (at : ℕ) (b : List ℕ) (rows : Rows) (l : List
   pub completion : Completion p at b l
   pub affords : Affords p (rows .used) (rows .may) (rows .left) l
 
-pub record Answer (p : Task) (at : ℕ) (b : List ℕ) (rows : Rows) (r : Placed) : Type 0 where
+pub record SearchSays (p : Task) (at : ℕ) (b : List ℕ) (rows : Rows) (r : Placed) : Type 0 where
   pub found : r .ok ≡ true → (l : List ℕ) × (r .ks ≡ laid at l) × First (Afforded p at b rows) (ListBefore _<_) l
   pub none : r .ok ≡ false → Failed p at b rows (r .why)
 

@@ -5,7 +5,7 @@ ghost use Prim.Native.Nat.{_<_, _≤_};
 ghost use lib.ListN.{length};
 ghost use Rattle.task.specs.Task.{posed, Sized};
 ghost use Rattle.placing.specs.FirstPlaces.{FirstPlaces, Enough};
-ghost use Rattle.placing.specs.Answer.{Answer, PlacesFrom};
+ghost use Rattle.placing.specs.Answer.{SearchSays, PlacesFrom};
 ghost use Rattle.placing.specs.Steps.{carrying, found, failed};
 use lookahead::reasons::Reasons;
 use lookahead::reasons::Rows;
@@ -91,7 +91,7 @@ fn place(
     requires { ⌜ Sized (posed (now source) (now widths) (now lasts) (now target) (now own)) ⌝ }
     requires { ⌜ at ≤ length (now widths) ⌝ }
     requires { ⌜ length (now b) ≡ 64 ⌝ }
-    ensures { λ r. ⌜ Answer (posed (now (source .entry)) (now (widths .entry)) (now (lasts .entry)) (now (target .entry)) (now (own .entry))) at (now (b .entry)) rows r ⌝ }
+    ensures { λ r. ⌜ SearchSays (posed (now (source .entry)) (now (widths .entry)) (now (lasts .entry)) (now (target .entry)) (now (own .entry))) at (now (b .entry)) rows r ⌝ }
 {
     if widths.len() <= at {
         return whole();

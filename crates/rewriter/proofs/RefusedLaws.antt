@@ -11,35 +11,35 @@ use Rattle.spec.specs.Book.{Book, admittedOf}
 use Rattle.spec.specs.BookLayout.{SoundBook}
 use Rattle.spec.specs.declared.Reason.{Reason}
 use Rattle.spec.specs.Refusals.{ofBook, Refusal}
-use Rattle.row_list.specs.Listing.{Sought, AllStand, TooMany, ListedSays, Listing}
-use Rattle.row_list.specs.declared.Listed.{Listed}
-use Rattle.row_list.specs.declared.Listed.the-variants.{All, Over}
+use Rattle.row_list.specs.Listing.{Sought, AllStand, RowsOver, ListedSays, ListSays}
+use Rattle.row_list.specs.declared.RowsListed.{RowsListed}
+use Rattle.row_list.specs.declared.RowsListed.the-variants.{All, Over}
 use Rattle.spec.specs.Reading.{ReadingSays}
 use Rattle.spec.specs.declared.Reading.{Reading}
-use Rattle.spec.specs.declared.Reading.the-variants.{Sound, Refused as RefusedWith}
-use Rattle.spec.specs.Table.{Fault1, Fault9, Fault10, Refused, one, read, nine, ten, answerRoom, witnessRoom, mostRows}
+use Rattle.spec.specs.declared.Reading.the-variants.{Sound, Refused}
+use Rattle.spec.specs.Table.{Fault1, Fault9, Fault10, RewriterRefusal, one, read, nine, ten, answerRoom, witnessRoom, mostRows}
 use Rattle.outcomes.proofs.Grants.{value-safe}
 use Rattle.outcomes.proofs.Total.{fault-9}
 use Rattle.first_shortest.specs.Chosen.{ChosenBy, Found, NotFound}
 use Rattle.first_shortest.specs.declared.Chosen.{Chosen}
-use Rattle.row_choice.specs.Asked.{AskedOf, Asked, RowsChosen}
+use Rattle.row_choice.specs.Asked.{ChoiceNeedsOf, ChoiceNeeds, RowsChosen}
 use Rattle.spec.specs.Rewriting.{TurnedDown}
 use Rattle.answer.specs.Steps.{ChosenPut}
 use Rattle.answer.proofs.ChosenLaws.{few-rows}
 use Rattle.rewriter.specs.Steps.{Sounds, Rowed}
 
-pub turned-down : {book a w : List ℕ} {r : Reason} → Refused book (length a) (length w) r → TurnedDown book a a w w r
+pub turned-down : {book a w : List ℕ} {r : Reason} → RewriterRefusal book (length a) (length w) r → TurnedDown book a a w w r
 turned-down r = record { refused = r; answer-stays = refl; witness-stays = refl }
 
 -- .. of a refusal that is not said of one rule
-pub turned-down-by : {book a w : List ℕ} {k : ℕ} {r : Reason} → r ≡ ofBook k → Refused book (length a) (length w) (ofBook k) → TurnedDown book a a w w r
-turned-down-by {book} {a} {w} e f = turned-down (subst (Refused book (length a) (length w)) (sym e) f)
+pub turned-down-by : {book a w : List ℕ} {k : ℕ} {r : Reason} → r ≡ ofBook k → RewriterRefusal book (length a) (length w) (ofBook k) → TurnedDown book a a w w r
+turned-down-by {book} {a} {w} e f = turned-down (subst (RewriterRefusal book (length a) (length w)) (sym e) f)
 
-pub answer-short : {book : List ℕ} {answer witness : ℕ} → answer < 534 → Refused book answer witness (ofBook 1)
+pub answer-short : {book : List ℕ} {answer witness : ℕ} → answer < 534 → RewriterRefusal book answer witness (ofBook 1)
 unfolding answerRoom
 answer-short h = one (inl h)
 
-pub witness-short : {book : List ℕ} {answer witness : ℕ} → witness < 120 → Refused book answer witness (ofBook 1)
+pub witness-short : {book : List ℕ} {answer witness : ℕ} → witness < 120 → RewriterRefusal book answer witness (ofBook 1)
 unfolding witnessRoom
 witness-short h = one (inr h)
 
@@ -47,32 +47,32 @@ pub roomy : {answer witness : ℕ} → 534 ≤ answer → 120 ≤ witness → Fa
 unfolding answerRoom witnessRoom
 roomy a w f = ⊎-elim (λ h. omega arith) (λ h. omega arith) f
 
-pub not-read : {book : List ℕ} {answer witness : ℕ} {r : Reason} → 534 ≤ answer → 120 ≤ witness → Refusal book r → Refused book answer witness r
+pub not-read : {book : List ℕ} {answer witness : ℕ} {r : Reason} → 534 ≤ answer → 120 ≤ witness → Refusal book r → RewriterRefusal book answer witness r
 not-read a w r = read (roomy a w) r
 
 module _ {book : List ℕ} {answer witness : ℕ} (s : Sounds book answer witness) where
   pub sought : {area : ℕ} → 576 ≤ area → Sought book area
   sought h = record { value = s .value; sound = s .sound; room = omega arith }
 
-  pub over-64 : {before after : List ℕ} → TooMany (admittedOf (s .value)) (s .value .question) before after → Refused book answer witness (ofBook 9)
+  pub over-64 : {before after : List ℕ} → RowsOver (admittedOf (s .value)) (s .value .question) before after → RewriterRefusal book answer witness (ofBook 9)
   over-64 t = nine (s .room) (s .value) (s .sound) (fault-9 (admittedOf (s .value)) (s .value .question) (value-safe (s .sound .value)) .1 (t .many))
 
   pub rowed : {before after : List ℕ} {n : ℕ} → AllStand (admittedOf (s .value)) (s .value .question) before after n → Rowed book after n answer witness
-  rowed {before} {n = n} t = record { asked = record { value = s .value; is = record { sound = s .sound; count = t .count; few = t .few; rest = drop (9 * n) before; words = t .words } }; room = s .room }
+  rowed {before} {n = n} t = record { asked = record { value = s .value; is = record { sound = s .sound; count = t .count; few = t .few; rest = drop (9 * n) before; codes = t .codes } }; room = s .room }
 
 module _ {book rows : List ℕ} {n answer witness : ℕ} (w : Rowed book rows n answer witness) {chosen : Chosen} (c : RowsChosen book rows n chosen) where
   pub chosen-put : chosen .ok ≡ true → ChosenPut book rows n chosen answer witness
   chosen-put e = record { asked = w .asked; found = c .by (w .asked .value) (w .asked .is) .found e; room = w .room }
 
-  pub none-do : chosen .ok ≡ false → Refused book answer witness (ofBook 10)
+  pub none-do : chosen .ok ≡ false → RewriterRefusal book answer witness (ofBook 10)
   none-do e = ten (w .room) (w .asked .value) (w .asked .is .sound) (few-rows (w .asked .value) (w .asked .is)) (c .by (w .asked .value) (w .asked .is) .none e .none)
 
 -- what the list of rows says, case by case
-module _ {book : List ℕ} {answer witness : ℕ} (s : Sounds book answer witness) {before after : List ℕ} {r : Listed} (l : Listing book before after r) where
+module _ {book : List ℕ} {answer witness : ℕ} (s : Sounds book answer witness) {before after : List ℕ} {r : RowsListed} (l : ListSays book before after r) where
   pub rows-listed : {n : ℕ} → r ≡ All n → Rowed book after n answer witness
   rows-listed e = rowed s (subst (ListedSays (admittedOf (s .value)) (s .value .question) before after) e (l .says (s .value) (s .sound)))
 
-  pub rows-over : r ≡ Over → Refused book answer witness (ofBook 9)
+  pub rows-over : r ≡ Over → RewriterRefusal book answer witness (ofBook 9)
   rows-over e = over-64 s (subst (ListedSays (admittedOf (s .value)) (s .value .question) before after) e (l .says (s .value) (s .sound)))
 
 -- what the reading says, case by case
@@ -80,5 +80,5 @@ module _ {book : List ℕ} {answer witness : ℕ} (a : 534 ≤ answer) (w : 120 
   pub read-sound : r ≡ Sound → Sounds book answer witness
   read-sound e = let v = subst (ReadingSays book) e says in record { value = v .0; sound = v .1; room = roomy a w }
 
-  pub read-refused : {why : Reason} → r ≡ RefusedWith why → Refused book answer witness why
+  pub read-refused : {why : Reason} → r ≡ Refused why → RewriterRefusal book answer witness why
   read-refused e = not-read a w (subst (ReadingSays book) e says)

@@ -4,7 +4,7 @@ use Prim.Native.Nat.{ℕ}
 use Rattle.spec.specs.Book.{Book}
 use Rattle.spec.specs.BookLayout.{SoundBook}
 use Rattle.spec.specs.Table.{Fault1}
-use Rattle.row_choice.specs.Asked.{Asked}
+use Rattle.row_choice.specs.Asked.{ChoiceNeeds}
 
 -- A sound book, and the areas are long enough.
 pub record Sounds (book : List ℕ) (answer witness : ℕ) : Type 0 where
@@ -14,5 +14,5 @@ pub record Sounds (book : List ℕ) (answer witness : ℕ) : Type 0 where
 
 -- Its summary rows, at most 64.
 pub record Rowed (book rows : List ℕ) (n answer witness : ℕ) : Type 0 where
-  pub asked : Asked book rows n
+  pub asked : ChoiceNeeds book rows n
   pub room : Fault1 answer witness → ⊥

@@ -7,7 +7,7 @@ use books::read_book;
 use codes::ROWS_CODES;
 use contents::reasons::of_book;
 use row_choice::choose_rows;
-use row_list::Listed;
+use row_list::RowsListed;
 use row_list::list_rows;
 use spec::ANSWER_ROOM;
 use spec::Outcome;
@@ -40,8 +40,8 @@ fn rewrite_sound(book: &[u8], answer: &mut [u8], witness: &mut [u8]) -> Outcome
 {
     let mut rows = [0u64; ROWS_CODES];
     match list_rows(book, &mut rows) {
-        Listed::Over => Outcome::Refused(of_book(9)),
-        Listed::All(n) => rewrite_rows(book, &rows, n, answer, witness),
+        RowsListed::Over => Outcome::Refused(of_book(9)),
+        RowsListed::All(n) => rewrite_rows(book, &rows, n, answer, witness),
     }
 }
 

@@ -1,4 +1,4 @@
--- The task of choosing, as the words that are lent.
+-- The task of choosing, as the codes that are lent.
 use mathlib.Core.Path.{_∙_}
 use mathlib.Core.List.{List}
 use Prim.Native.Nat.{ℕ, _*_}
@@ -8,34 +8,34 @@ use lib.Seq.{length-take-le}
 use Rattle.spec.specs.Words.{Term, Subgoal}
 use Rattle.spec.proofs.Decided.Rows.{allRows, allRows-enumerate}
 use Rattle.spec.specs.Book.{Book, admittedOf}
-use Rattle.choice_theory.specs.Numbered.{Rows}
+use Rattle.choice_theory.specs.Numbered.{RowList}
 use Rattle.task.specs.Task.{Task, posed}
 use Rattle.outcomes.proofs.Bounds.{book-bounds}
 use Rattle.book_codes.specs.Question.{QuestionSource, QuestionBound}
-use Rattle.book_codes.proofs.Lent.{goals-few, source-words, source-widths}
+use Rattle.book_codes.proofs.Lent.{goals-few, source-codes, source-widths}
 use Rattle.book_codes.specs.RowsGiven.{RowsOf}
 use Rattle.first_shortest.specs.Posed.{PosedBy}
 use Rattle.first_shortest.specs.Pruning.{Table, PosedWith}
 use Rattle.first_shortest.specs.Chosen.{Chooses}
 use Rattle.first_shortest.specs.declared.Chosen.{Chosen}
-use Rattle.row_choice.specs.Asked.{AskedOf, Asked, RowsChosen}
+use Rattle.row_choice.specs.Asked.{ChoiceNeedsOf, ChoiceNeeds, RowsChosen}
 use Rattle.row_choice.specs.Targets.{Targets, Owners}
 use Rattle.row_choice.specs.Dominance.{Dominance}
 use Rattle.row_choice.proofs.AskedLaws.{asked-rows}
 
 -- The sets make a table for the choice.
-table-of : {book rows dom : List ℕ} {n : ℕ} {b : Book} {l : Rows} → RowsOf book rows n b l → Dominance book rows n dom → Table (admittedOf b) l n dom
+table-of : {book rows dom : List ℕ} {n : ℕ} {b : Book} {l : RowList} → RowsOf book rows n b l → Dominance book rows n dom → Table (admittedOf b) l n dom
 table-of {b = b} {l} w d = record {
   within = λ r x h m. let e = d .by b l w r h .exactly x .0 m in let c = w .count in omega arith;
   sound = λ r x h m. d .by b l w r h .exactly x .0 m .1;
 }
 
-module _ {book rows : List ℕ} {n : ℕ} (a : Asked book rows n) {before source old widths : List ℕ} {k : ℕ} (w : QuestionSource book before source old widths k) where
+module _ {book rows : List ℕ} {n : ℕ} (a : ChoiceNeeds book rows n) {before source old widths : List ℕ} {k : ℕ} (w : QuestionSource book before source old widths k) where
   module _ {target own bound dom : List ℕ} (targets : Targets book rows n target) (owned : Owners book rows n own) (head : QuestionBound book bound) (d : Dominance book rows n dom) where
     abbrev lent : Task
     lent = posed (take (9 * k) source) (take k widths) (take k (replicate 12 0)) target own
 
-    posed-by : (b : Book) → AskedOf book rows n b → PosedBy (admittedOf b) (b .question) (allRows (admittedOf b) (b .question)) lent bound n
+    posed-by : (b : Book) → ChoiceNeedsOf book rows n b → PosedBy (admittedOf b) (b .question) (allRows (admittedOf b) (b .question)) lent bound n
     posed-by b o = record {
       arities = b .arities;
       bounds = book-bounds b (o .sound .value);
@@ -43,7 +43,7 @@ module _ {book rows : List ℕ} {n : ℕ} (a : Asked book rows n) {before source
       within = given .within;
       count = given .count;
       few = o .few;
-      words = λ i. posed (source-words b (o .sound) w i) (source-widths b (o .sound) w i) (take k (replicate 12 0)) (targets .is b all given i) (owned .is b all given i);
+      codes = λ i. posed (source-codes b (o .sound) w i) (source-widths b (o .sound) w i) (take k (replicate 12 0)) (targets .is b all given i) (owned .is b all given i);
       marked = length-take-le k (replicate 12 0) (goals-few b (o .sound) w) ∙ w .count b (o .sound);
       head = head .is b (o .sound);
     }

@@ -8,19 +8,19 @@ use lib.Seq.{take-at, length-take-le}
 use Rattle.spec.specs.Words.{Term, Subgoal}
 use Rattle.spec.specs.Summaries.{Own, uses, joined}
 use Rattle.spec.specs.Book.{admittedOf}
-use Rattle.codes.specs.Code.{ownCode, wordsOf}
+use Rattle.codes.specs.Code.{ownCode, codesOf}
 use Rattle.choice_theory.specs.Placed.{owners}
 use Rattle.outcomes.proofs.Bounds.{book-bounds}
 use Rattle.search_meaning.proofs.InUse.{uses-few}
 use Rattle.search_meaning.proofs.Owners.{owners-long}
 use Rattle.rule_codes.proofs.Stores.{front-length}
-use Rattle.rule_codes.proofs.WordLaws.{words-length}
+use Rattle.codes.proofs.Padded.{codes-length}
 use Rattle.book_codes.specs.RowsGiven.{RowsGiven}
-use Rattle.book_codes.specs.AllUses.{Counted, AllWords, AllOwners}
+use Rattle.book_codes.specs.AllUses.{GoalsCounted, AllCodes, AllOwners}
 use Rattle.row_choice.specs.Targets.{Targets, Owners}
 
-module _ {book rows : List ℕ} {n goals : ℕ} (g : RowsGiven book rows n) (few : n ≤ 64) (counted : Counted book rows n goals)
-    {before target old own : List ℕ} (words : AllWords book rows n ownCode before target) (owned : AllOwners book rows n old own) (wide : length before ≡ 4608) (many : length old ≡ 512) where
+module _ {book rows : List ℕ} {n goals : ℕ} (g : RowsGiven book rows n) (few : n ≤ 64) (counted : GoalsCounted book rows n goals)
+    {before target old own : List ℕ} (codes : AllCodes book rows n ownCode before target) (owned : AllOwners book rows n old own) (wide : length before ≡ 4608) (many : length old ≡ 512) where
   abbrev all : List (Subgoal (Term (Own ℕ)))
   all = joined (uses (admittedOf (g .value)) 0 (g .list))
 
@@ -31,7 +31,7 @@ module _ {book rows : List ℕ} {n goals : ℕ} (g : RowsGiven book rows n) (few
       omega (arith, counted .is b (g .list) (g .is), uses-few (b .arities) (admittedOf b) (b .question) (book-bounds b (g .is .sound .value)) 0 (g .list) (g .is .within))
 
   pub target-long : length target ≡ 4608
-  target-long = ap length (words .is (g .value) (g .list) (g .is)) ∙ front-length (wordsOf ownCode all) before (omega (arith, words-length ownCode all, counted .is (g .value) (g .list) (g .is), goals-few)) ∙ wide
+  target-long = ap length (codes .is (g .value) (g .list) (g .is)) ∙ front-length (codesOf ownCode all) before (omega (arith, codes-length ownCode all, counted .is (g .value) (g .list) (g .is), goals-few)) ∙ wide
 
   pub own-long : length own ≡ 512
   own-long =
@@ -48,7 +48,7 @@ module _ {book rows : List ℕ} {n goals : ℕ} (g : RowsGiven book rows n) (few
   all-targets = record {
     is = λ b l w.
         let m = joined (uses (admittedOf b) 0 l) in
-        ap (take (9 * goals)) (words .is b l w) ∙ take-at (wordsOf ownCode m) (drop (length (wordsOf ownCode m)) before) (9 * goals) (words-length ownCode m ∙ ap (λ k. 9 * k) (sym (counted .is b l w)));
+        ap (take (9 * goals)) (codes .is b l w) ∙ take-at (codesOf ownCode m) (drop (length (codesOf ownCode m)) before) (9 * goals) (codes-length ownCode m ∙ ap (λ k. 9 * k) (sym (counted .is b l w)));
   }
 
   pub all-owners : Owners book rows n (take goals own)

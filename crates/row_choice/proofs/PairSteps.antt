@@ -11,14 +11,13 @@ use Rattle.spec.specs.Words.{Term, Subgoal}
 use Rattle.spec.specs.Summaries.{Summaries, Own, inPlace}
 use Rattle.spec.proofs.Lists.Places.{getD-in}
 use Rattle.codes.specs.Code.{ownCode, keptSlot}
-use Rattle.choice_theory.specs.Numbered.{Rows, nothing, rowAt}
+use Rattle.choice_theory.specs.Numbered.{RowList, nothing, rowAt}
 use Rattle.choice_theory.specs.Lists.{in-getD}
 use Rattle.choice_theory.specs.Dominates.{Dominates}
 use Rattle.task.specs.Task.{posed}
-use Rattle.search_meaning.proofs.AtWords.{relation-at}
+use Rattle.search_meaning.proofs.AtCodes.{relation-at}
 use Rattle.search_meaning.proofs.InUse.{use-few, use-some}
-use Rattle.rule_codes.proofs.WordLaws.{words-length}
-use Rattle.codes.proofs.Padded.{widths-length}
+use Rattle.codes.proofs.Padded.{codes-length, widths-length}
 use Rattle.first_shortest.specs.Pruning.{UsesBy, Uses, TellsDominance}
 use Rattle.spec.proofs.Lists.Zeros.{zeros-at}
 use Rattle.row_choice.specs.Dominators.{SoundRows, Pair, SomePair, NoRelation, TellsPair}
@@ -41,16 +40,16 @@ marks-long : (n : ℕ) → n ≤ 8 → length (take n (replicate {A = ℕ} 8 0))
 marks-long n h = length-take-le n (replicate 8 0) h
 
 -- "summary 1 to 8" subgoals
-row-few : {s : Summaries} {rows : Rows} → SoundRows s rows → (r : ℕ) → r < length rows → length (inPlace s r (rowAt rows r)) ≤ 8
+row-few : {s : Summaries} {rows : RowList} → SoundRows s rows → (r : ℕ) → r < length rows → length (inPlace s r (rowAt rows r)) ≤ 8
 row-few {s} {rows} o r h = use-few (o .arities) s (o .question) (o .bounds) rows (o .within) (rowAt rows r) (getD-in rows r nothing h) r
 
 module _ {source widths target : List ℕ} where
-  module _ {s : Summaries} {rows : Rows} {d r : ℕ} (p : Pair s rows d r source widths target) where
+  module _ {s : Summaries} {rows : RowList} {d r : ℕ} (p : Pair s rows d r source widths target) where
     goals-are : length widths ≡ length (inPlace s r (rowAt rows r))
     goals-are = ap length (p .under .counts) ∙ widths-length (inPlace s r (rowAt rows r))
 
     targets-are : length target / 9 ≡ length (inPlace s d (rowAt rows d))
-    targets-are = let n : length target ≡ 9 * length (inPlace s d (rowAt rows d)) = ap length (p .words) ∙ words-length ownCode (inPlace s d (rowAt rows d)) in omega arith
+    targets-are = let n : length target ≡ 9 * length (inPlace s d (rowAt rows d)) = ap length (p .codes) ∙ codes-length ownCode (inPlace s d (rowAt rows d)) in omega arith
 
     few-goals : length widths ≤ 8
     few-goals = omega (arith, goals-are, row-few (p .sound) r (p .under .there))
@@ -66,7 +65,7 @@ module _ {source widths target : List ℕ} where
       within = p .sound .within;
       over = p .over;
       under = p .under .there;
-      words = λ i. posed (p .under .words i) (p .under .counts i) (take (length widths) (replicate 8 0)) (p .words i) (take (length target / 9) (replicate 8 0));
+      codes = λ i. posed (p .under .codes i) (p .under .counts i) (take (length widths) (replicate 8 0)) (p .codes i) (take (length target / 9) (replicate 8 0));
       marked = marks-long (length widths) few-goals ∙ goals-are;
       owned = marks-long (length target / 9) few-targets ∙ targets-are;
       sets = λ k. omega (arith, zeros-at (length target / 9) 8 k);
@@ -92,20 +91,20 @@ module _ {source widths target : List ℕ} where
   pair-tells t = record { exactly = λ s rows d r p. t .exactly s rows d r (uses-by p) }
 
   -- the first subgoal of row r's use has to become one of row d's
-  module _ {s : Summaries} {rows : Rows} {d r : ℕ} (p : Pair s rows d r source widths target) where
+  module _ {s : Summaries} {rows : RowList} {d r : ℕ} (p : Pair s rows d r source widths target) where
     some-goal : 1 ≤ length (inPlace s r (rowAt rows r))
     some-goal = use-some (p .sound .arities) s (p .sound .question) (p .sound .bounds) rows (p .sound .within) (rowAt rows r) (getD-in rows r nothing (p .under .there)) r
 
     pub source-some : 9 ≤ length source
-    source-some = omega (arith, ap length (p .under .words), words-length keptSlot (inPlace s r (rowAt rows r)), some-goal)
+    source-some = omega (arith, ap length (p .under .codes), codes-length keptSlot (inPlace s r (rowAt rows r)), some-goal)
 
     not-over : NoRelation target (getD source 0 0) false → Dominates s rows d r → ⊥
     not-over n o =
         let first = getD (inPlace s r (rowAt rows r)) 0 nothing in
         let w = in-getD nothing (inPlace s d (rowAt rows d)) (o .holds first (getD-in (inPlace s r (rowAt rows r)) 0 nothing some-goal)) in
         let z : 9 * 0 ≡ 0 = omega arith in
-        let from : getD source 0 0 ≡ first .relation = ap (λ x. getD x 0 0) (p .under .words) ∙ relation-at keptSlot (inPlace s r (rowAt rows r)) 0 some-goal in
-        let to : getD target (9 * w .0) 0 ≡ first .relation = ap (λ x. getD x (9 * w .0) 0) (p .words) ∙ relation-at ownCode (inPlace s d (rowAt rows d)) (w .0) (w .1) ∙ ap (λ (g : Subgoal (Term (Own ℕ))). g .relation) (w .2) in
+        let from : getD source 0 0 ≡ first .relation = ap (λ x. getD x 0 0) (p .under .codes) ∙ relation-at keptSlot (inPlace s r (rowAt rows r)) 0 some-goal in
+        let to : getD target (9 * w .0) 0 ≡ first .relation = ap (λ x. getD x (9 * w .0) 0) (p .codes) ∙ relation-at ownCode (inPlace s d (rowAt rows d)) (w .0) (w .1) ∙ ap (λ (g : Subgoal (Term (Own ℕ))). g .relation) (w .2) in
         n .none refl (w .0) (omega (arith, targets-are p, w .1)) (to ∙ sym from)
 
   pub pair-apart : NoRelation target (getD source 0 0) false → TellsPair source widths target false

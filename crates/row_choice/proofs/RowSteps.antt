@@ -7,16 +7,15 @@ use lib.ListN.{length, take, drop}
 use lib.Seq.{take-at, length-take-le}
 use Rattle.spec.specs.Summaries.{inPlace}
 use Rattle.spec.specs.Book.{Book, admittedOf}
-use Rattle.codes.specs.Code.{keptSlot, wordsOf, widthsOf}
-use Rattle.choice_theory.specs.Numbered.{Rows, rowAt}
+use Rattle.codes.specs.Code.{keptSlot, codesOf, widthsOf}
+use Rattle.choice_theory.specs.Numbered.{RowList, rowAt}
 use Rattle.outcomes.proofs.Bounds.{book-bounds}
 use Rattle.rule_codes.proofs.Stores.{front-length}
-use Rattle.rule_codes.proofs.WordLaws.{words-length}
+use Rattle.codes.proofs.Padded.{codes-length, widths-length}
 use Rattle.book_codes.specs.OneUse.{OneUse, OneWidths}
 use Rattle.book_codes.specs.RowsGiven.{RowsOf, RowsGiven}
-use Rattle.codes.proofs.Padded.{widths-length}
 use Rattle.book_codes.proofs.Growing.{rowFrom, row-of}
-use Rattle.row_choice.specs.Dominators.{Against, SomeAgainst, TellsAgainst, Onto, DominatorsOf}
+use Rattle.row_choice.specs.Dominators.{Against, SomeAgainst, TellsAgainst, RowsAsTargets, DominatorsOf}
 
 module _ {book rows : List ℕ} {n : ℕ} where
   module _ (g : RowsGiven book rows n) {r : ℕ} (h : r < n) {before after old new : List ℕ} {k : ℕ}
@@ -28,7 +27,7 @@ module _ {book rows : List ℕ} {n : ℕ} where
     source-long =
         let o = row-of (g .is) r h in
         let m = inPlace (admittedOf (g .value)) 0 (rowAt (g .list) r) in
-        ap length (u 0 .words (g .value) (rowAt (g .list) r) o) ∙ front-length (wordsOf keptSlot m) before (omega (arith, words-length keptSlot m, u 0 .count (g .value) (rowAt (g .list) r) o, goals-few)) ∙ wide
+        ap length (u 0 .codes (g .value) (rowAt (g .list) r) o) ∙ front-length (codesOf keptSlot m) before (omega (arith, codes-length keptSlot m, u 0 .count (g .value) (rowAt (g .list) r) o, goals-few)) ∙ wide
 
     pub widths-long : length new ≡ 8
     widths-long =
@@ -42,8 +41,8 @@ module _ {book rows : List ℕ} {n : ℕ} where
     pub widths-part : length (take k new) ≡ k
     widths-part = length-take-le k new (omega (arith, widths-long, goals-few))
 
-    module _ (few : n ≤ 64) {target begins : List ℕ} (onto : Onto book rows n target begins) where
-      against : (b : Book) (l : Rows) → RowsOf book rows n b l → Against (admittedOf b) l r (take (9 * k) after) (take k new) target begins n
+    module _ (few : n ≤ 64) {target begins : List ℕ} (onto : RowsAsTargets book rows n target begins) where
+      against : (b : Book) (l : RowList) → RowsOf book rows n b l → Against (admittedOf b) l r (take (9 * k) after) (take k new) target begins n
       against b l w =
           let o = row-of w r h in
           let m = inPlace (admittedOf b) r (rowAt l r) in
@@ -54,7 +53,7 @@ module _ {book rows : List ℕ} {n : ℕ} where
             few = few;
             under = record {
               there = let e = w .count in omega arith;
-              words = ap (take (9 * k)) (u r .words b (rowAt l r) o) ∙ take-at (wordsOf keptSlot m) (drop (length (wordsOf keptSlot m)) before) (9 * k) (omega (arith, words-length keptSlot m));
+              codes = ap (take (9 * k)) (u r .codes b (rowAt l r) o) ∙ take-at (codesOf keptSlot m) (drop (length (codesOf keptSlot m)) before) (9 * k) (omega (arith, codes-length keptSlot m));
               counts = ap (take k) (c .widths b (rowAt l r) r o) ∙ take-at (widthsOf m) (drop (length (widthsOf m)) old) k (widths-length m ∙ size);
             };
             all = onto .is b l w;

@@ -6,22 +6,22 @@ use lib.ListN.{length}
 use Rattle.spec.proofs.Decided.Rows.{allRows}
 use Rattle.spec.specs.Book.{Book, admittedOf}
 use Rattle.spec.specs.BookLayout.{SoundBook}
-use Rattle.codes.specs.Code.{termCode, wordsOf}
+use Rattle.codes.specs.Code.{termCode, codesOf}
 use Rattle.first_shortest.specs.Chosen.{ChosenBy}
 use Rattle.first_shortest.specs.declared.Chosen.{Chosen}
 
 -- The n rows at the front are all summary rows of the book's question, at most 64.
-pub record AskedOf (book rows : List ℕ) (n : ℕ) (b : Book) : Type 0 where
+pub record ChoiceNeedsOf (book rows : List ℕ) (n : ℕ) (b : Book) : Type 0 where
   pub sound : SoundBook book b
   pub count : n ≡ length (allRows (admittedOf b) (b .question))
   pub few : n ≤ 64
   pub rest : List ℕ
-  pub words : rows ≡ wordsOf termCode (allRows (admittedOf b) (b .question)) ++ rest
+  pub codes : rows ≡ codesOf termCode (allRows (admittedOf b) (b .question)) ++ rest
 
-pub record Asked (book rows : List ℕ) (n : ℕ) : Type 0 where
+pub record ChoiceNeeds (book rows : List ℕ) (n : ℕ) : Type 0 where
   pub value : Book
-  pub is : AskedOf book rows n value
+  pub is : ChoiceNeedsOf book rows n value
 
 -- The first of the shortest equivalent lists of them, or that there is none.
 pub record RowsChosen (book rows : List ℕ) (n : ℕ) (r : Chosen) : Type 0 where
-  pub by : (b : Book) → AskedOf book rows n b → ChosenBy (admittedOf b) (b .question) (allRows (admittedOf b) (b .question)) r
+  pub by : (b : Book) → ChoiceNeedsOf book rows n b → ChosenBy (admittedOf b) (b .question) (allRows (admittedOf b) (b .question)) r

@@ -1,4 +1,4 @@
--- Which rows dominate a row, on words: its own use as a source, the uses of all rows as targets.
+-- Which rows dominate a row, on codes: its own use as a source, the uses of all rows as targets.
 use mathlib.Core.Path.{_≡_}
 use mathlib.Core.Bool.{Bool, true, false}
 use mathlib.Core.Logic.{_↔_}
@@ -9,45 +9,45 @@ use Rattle.spec.specs.Words.{Rule}
 use Rattle.spec.specs.Summaries.{Summaries, inPlace, uses, joined}
 use Rattle.spec.specs.Book.{Book, admittedOf}
 use Rattle.bits.specs.Sets.{Has}
-use Rattle.codes.specs.Code.{ownCode, keptSlot, wordsOf, widthsOf}
-use Rattle.choice_theory.specs.Numbered.{Rows, rowAt}
+use Rattle.codes.specs.Code.{ownCode, keptSlot, codesOf, widthsOf}
+use Rattle.choice_theory.specs.Numbered.{RowList, rowAt}
 use Rattle.choice_theory.specs.Dominates.{Dominates}
 use Rattle.outcomes.specs.Bounds.{Bounds, RowsWithin}
 use Rattle.book_codes.specs.RowsGiven.{RowsOf}
 use Rattle.book_codes.specs.Insides.{starts}
 
 -- The rows are those of some sound book.
-pub record SoundRows (s : Summaries) (rows : Rows) : Type 0 where
+pub record SoundRows (s : Summaries) (rows : RowList) : Type 0 where
   pub arities : List ℕ
   pub question : Rule ℕ
   pub bounds : Bounds arities s question
   pub within : RowsWithin s rows
 
 -- The source is row r's use; the rows' own terms stay in it.
-pub record UseWords (s : Summaries) (rows : Rows) (r : ℕ) (source widths : List ℕ) : Type 0 where
+pub record RowUseCodes (s : Summaries) (rows : RowList) (r : ℕ) (source widths : List ℕ) : Type 0 where
   pub there : r < length rows
-  pub words : source ≡ wordsOf keptSlot (inPlace s r (rowAt rows r))
+  pub codes : source ≡ codesOf keptSlot (inPlace s r (rowAt rows r))
   pub counts : widths ≡ widthsOf (inPlace s r (rowAt rows r))
 
 -- The targets are all rows' uses, and where each begins stands in a list.
-pub record AllUses (s : Summaries) (rows : Rows) (target begins : List ℕ) : Type 0 where
-  pub words : target ≡ wordsOf ownCode (joined (uses s 0 rows))
+pub record AllUses (s : Summaries) (rows : RowList) (target begins : List ℕ) : Type 0 where
+  pub codes : target ≡ codesOf ownCode (joined (uses s 0 rows))
   pub starts : take (length rows + 1) begins ≡ starts 0 (uses s 0 rows)
 
 -- A set of just the rows that dominate row r.
-pub record Dominators (s : Summaries) (rows : Rows) (r set : ℕ) : Type 0 where
+pub record Dominators (s : Summaries) (rows : RowList) (r set : ℕ) : Type 0 where
   pub exactly : (d : ℕ) → Has set d ↔ ((d < length rows) × Dominates s rows d r)
 
 -- One pair: the source is row r's use, the target is row d's.
-pub record Pair (s : Summaries) (rows : Rows) (d r : ℕ) (source widths target : List ℕ) : Type 0 where
+pub record Pair (s : Summaries) (rows : RowList) (d r : ℕ) (source widths target : List ℕ) : Type 0 where
   pub sound : SoundRows s rows
-  pub under : UseWords s rows r source widths
+  pub under : RowUseCodes s rows r source widths
   pub over : d < length rows
-  pub words : target ≡ wordsOf ownCode (inPlace s d (rowAt rows d))
+  pub codes : target ≡ codesOf ownCode (inPlace s d (rowAt rows d))
 
 pub record SomePair (source widths target : List ℕ) : Type 0 where
   pub summaries : Summaries
-  pub rows : Rows
+  pub rows : RowList
   pub d : ℕ
   pub r : ℕ
   pub is : Pair summaries rows d r source widths target
@@ -57,29 +57,29 @@ pub record NoRelation (target : List ℕ) (relation : ℕ) (answer : Bool) : Typ
   pub none : answer ≡ false → (k : ℕ) → k < length target / 9 → getD target (9 * k) 0 ≡ relation → ⊥
 
 pub record TellsPair (source widths target : List ℕ) (answer : Bool) : Type 0 where
-  pub exactly : (s : Summaries) (rows : Rows) (d r : ℕ) → Pair s rows d r source widths target → (answer ≡ true) ↔ Dominates s rows d r
+  pub exactly : (s : Summaries) (rows : RowList) (d r : ℕ) → Pair s rows d r source widths target → (answer ≡ true) ↔ Dominates s rows d r
 
 -- One row against all n.
-pub record Against (s : Summaries) (rows : Rows) (r : ℕ) (source widths target begins : List ℕ) (n : ℕ) : Type 0 where
+pub record Against (s : Summaries) (rows : RowList) (r : ℕ) (source widths target begins : List ℕ) (n : ℕ) : Type 0 where
   pub sound : SoundRows s rows
   pub count : length rows ≡ n
   pub few : n ≤ 64
-  pub under : UseWords s rows r source widths
+  pub under : RowUseCodes s rows r source widths
   pub all : AllUses s rows target begins
 
 pub record SomeAgainst (source widths target begins : List ℕ) (n : ℕ) : Type 0 where
   pub summaries : Summaries
-  pub rows : Rows
+  pub rows : RowList
   pub r : ℕ
   pub is : Against summaries rows r source widths target begins n
 
 pub record TellsAgainst (source widths target begins : List ℕ) (n set : ℕ) : Type 0 where
-  pub by : (s : Summaries) (rows : Rows) (r : ℕ) → Against s rows r source widths target begins n → Dominators s rows r set
+  pub by : (s : Summaries) (rows : RowList) (r : ℕ) → Against s rows r source widths target begins n → Dominators s rows r set
 
--- The same of rows as words, over a book.
+-- The same of rows as codes, over a book.
 module _ (book rows : List ℕ) (n : ℕ) where
-  pub record Onto (target begins : List ℕ) : Type 0 where
-    pub is : (b : Book) (l : Rows) → RowsOf book rows n b l → AllUses (admittedOf b) l target begins
+  pub record RowsAsTargets (target begins : List ℕ) : Type 0 where
+    pub is : (b : Book) (l : RowList) → RowsOf book rows n b l → AllUses (admittedOf b) l target begins
 
   pub record DominatorsOf (r set : ℕ) : Type 0 where
-    pub by : (b : Book) (l : Rows) → RowsOf book rows n b l → Dominators (admittedOf b) l r set
+    pub by : (b : Book) (l : RowList) → RowsOf book rows n b l → Dominators (admittedOf b) l r set

@@ -4,16 +4,16 @@ use mathlib.Core.List.{List}
 use Prim.Native.Nat.{ℕ}
 use Rattle.spec.specs.Summaries.{uses, joined}
 use Rattle.spec.specs.Book.{Book, admittedOf}
-use Rattle.codes.specs.Code.{ownCode, wordsOf}
-use Rattle.choice_theory.specs.Numbered.{Rows}
+use Rattle.codes.specs.Code.{ownCode, codesOf}
+use Rattle.choice_theory.specs.Numbered.{RowList}
 use Rattle.choice_theory.specs.Placed.{owners}
 use Rattle.book_codes.specs.RowsGiven.{RowsOf}
 
 module _ (book rows : List ℕ) (n : ℕ) where
-  -- their words
+  -- their codes
   pub record Targets (target : List ℕ) : Type 0 where
-    pub is : (b : Book) (l : Rows) → RowsOf book rows n b l → target ≡ wordsOf ownCode (joined (uses (admittedOf b) 0 l))
+    pub is : (b : Book) (l : RowList) → RowsOf book rows n b l → target ≡ codesOf ownCode (joined (uses (admittedOf b) 0 l))
 
   -- of each target the number of its row
   pub record Owners (own : List ℕ) : Type 0 where
-    pub is : (b : Book) (l : Rows) → RowsOf book rows n b l → own ≡ owners 0 (uses (admittedOf b) 0 l)
+    pub is : (b : Book) (l : RowList) → RowsOf book rows n b l → own ≡ owners 0 (uses (admittedOf b) 0 l)

@@ -1,7 +1,7 @@
 // Which rows dominate a row of a sound book: the set of those in whose use its own use can be found.
 ghost use Prim.Native.Nat.{_<_, _≤_};
 ghost use Rattle.book_codes.specs.RowsGiven.{RowsGiven};
-ghost use Rattle.row_choice.specs.Dominators.{NoRelation, SomePair, TellsPair, SomeAgainst, TellsAgainst, Onto, DominatorsOf};
+ghost use Rattle.row_choice.specs.Dominators.{NoRelation, SomePair, TellsPair, SomeAgainst, TellsAgainst, RowsAsTargets, DominatorsOf};
 use book_codes::one_use::kept_use;
 use codes::SUBGOAL_CODES;
 use first_shortest::feasibility::dominates;
@@ -72,7 +72,7 @@ pub fn dominators(
     target: &[u64],
     starts: &[u16; MOST_ROWS + 1],
 ) -> u64
-    requires { ⌜ RowsGiven (now book) (now rows) n × (n ≤ 64) × (r < n) × Onto (now book) (now rows) n (now target) (now starts) ⌝ }
+    requires { ⌜ RowsGiven (now book) (now rows) n × (n ≤ 64) × (r < n) × RowsAsTargets (now book) (now rows) n (now target) (now starts) ⌝ }
     ensures { λ s. ⌜ DominatorsOf (now (book .entry)) (now (rows .entry)) n r s ⌝ }
 {
     let mut source = [0u64; 72];

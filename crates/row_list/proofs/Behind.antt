@@ -1,4 +1,4 @@
--- Words at the front of an area, and more words written behind them to the part of the area that is left.
+-- Codes at the front of an area, and more codes written behind them to the part of the area that is left.
 use mathlib.Core.Path.{_≡_, sym, ap, ap₂, _∙_}
 use mathlib.Core.List.{List, [], _++_, append-assoc, append-nil}
 use Prim.Native.Nat.{ℕ, _+_, _-_, _≤_}

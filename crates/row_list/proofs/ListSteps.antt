@@ -19,16 +19,16 @@ use Rattle.spec.specs.Contents.{count}
 use Rattle.spec.proofs.Bytes.BookStands.{book-count}
 use Rattle.spec.proofs.Bytes.BookPasses.{book-loads}
 use Rattle.spec.proofs.Bytes.Within.{entries-some, loads-room}
-use Rattle.codes.specs.Code.{termCode, wordsOf}
-use Rattle.codes.proofs.Padded.{words-length}
+use Rattle.codes.specs.Code.{termCode, codesOf}
+use Rattle.codes.proofs.Padded.{codes-length}
 use Rattle.outcomes.proofs.Bounds.{book-bounds}
 use Rattle.spec.specs.Table.{mostRows}
 use Rattle.summary_rows.specs.Tables.{TableTo}
 use Rattle.summary_rows.specs.declared.Tally.{Tally}
-use Rattle.summary_rows.proofs.TableLaws.{table-none, table-skip, table-more, table-over, over-words, table-all}
-use Rattle.row_list.specs.Listing.{Sought, TooMany, AllStand, Listing}
+use Rattle.summary_rows.proofs.TableLaws.{table-none, table-skip, table-more, table-over, over-codes, table-all}
+use Rattle.row_list.specs.Listing.{Sought, RowsOver, AllStand, ListSays}
 use Rattle.row_list.specs.Turns.{OntoQuestion, Turn, TurnSays, TablesTo}
-use Rattle.row_list.specs.declared.Listed.the-variants.{All, Over}
+use Rattle.row_list.specs.declared.RowsListed.the-variants.{All, Over}
 
 safe-of : (b : Book) {book : List ℕ} → SoundBook book b → AllSafe (admittedOf b)
 safe-of b s = book-bounds b (s .value) .safe
@@ -56,7 +56,7 @@ module _ {book : List ℕ} {area : ℕ} (w : Sought book area) where
         let h = here in
         let few = h .few in
         let area = w .room in
-        ap length (h .words) ∙ omega (arith, length-append (wordsOf termCode (h .rows)) (drop (9 * found) before), words-length termCode (h .rows), length-drop (9 * found) before, h .counted)
+        ap length (h .codes) ∙ omega (arith, length-append (codesOf termCode (h .rows)) (drop (9 * found) before), codes-length termCode (h .rows), length-drop (9 * found) before, h .counted)
 
     module _ {n : ℕ} (all : n ≡ count book) where
       pub next-turn : {target own : List ℕ} → OntoQuestion book target own → i < n → Turn book target own (i + 1) found (length out)
@@ -67,14 +67,14 @@ module _ {book : List ℕ} {area : ℕ} (w : Sought book area) where
         room = let area = w .room in omega (arith, tables-long);
       }
 
-      pub tables-end : n ≤ i → i ≤ n → Listing book before out (All found)
+      pub tables-end : n ≤ i → i ≤ n → ListSays book before out (All found)
       tables-end h l = record { says = says }
         where
           says : (b : Book) → SoundBook book b → AllStand (admittedOf b) (b .question) before out found
           says b s =
               let same : i ≡ length (admittedOf b) = omega (arith, all-summaries b s) in
               let a = table-all (admittedOf b) (b .question) before (safe-of b s) out found (subst (λ k. TableTo (admittedOf b) (b .question) k before out found) same (t .table b s)) in
-              record { count = a .0; few = omega (arith, a .0, a .1); words = a .2 }
+              record { count = a .0; few = omega (arith, a .0, a .1); codes = a .2 }
 
     module _ {after : List ℕ} {r : Tally} (turn : TurnSays book (i + 1) found out after r) where
       pub tables-go : r .over ≡ false → TablesTo book (i + 1) before after (r .count)
@@ -90,15 +90,15 @@ module _ {book : List ℕ} {area : ℕ} (w : Sought book area) where
               rw (one, l .1, l .2) (table-skip (admittedOf b) (b .question) before i out found (rw one at e) (t .table b s))
 
       module _ (over : r .over ≡ true) where
-        pub tables-over : Listing book before after Over
+        pub tables-over : ListSays book before after Over
         tables-over = record { says = λ b s. go b s (summary (admittedOf b) (i + 1)) refl }
           where
-            go : (b : Book) → SoundBook book b → (o : Option (Rule ℕ)) → summary (admittedOf b) (i + 1) ≡ o → TooMany (admittedOf b) (b .question) before after
+            go : (b : Book) → SoundBook book b → (o : Option (Rule ℕ)) → summary (admittedOf b) (i + 1) ≡ o → RowsOver (admittedOf b) (b .question) before after
             go b s (some v) e =
                 let one : i + 1 ≡ suc i = omega arith in
                 let f : summary (admittedOf b) (suc i) ≡ some v = rw one at e in
                 let a = rw one at (turn .rows b s v e) in
-                record { many = table-over (admittedOf b) (b .question) before i out found (t .table b s) v f after r a (safe-of b s) over; words = over-words (admittedOf b) (b .question) before i out found (t .table b s) v f after r a (safe-of b s) over }
+                record { many = table-over (admittedOf b) (b .question) before i out found (t .table b s) v f after r a (safe-of b s) over; codes = over-codes (admittedOf b) (b .question) before i out found (t .table b s) v f after r a (safe-of b s) over }
             go b s none e = absurd (fails (turn .left b s e .0) (passes over))
 
         pub over-long : length after ≡ length before
@@ -107,4 +107,4 @@ module _ {book : List ℕ} {area : ℕ} (w : Sought book area) where
             let area = w .room in
             let rows = take mostRows (allRows (admittedOf (w .value)) (w .value .question)) in
             let all = m .many in
-            ap length (m .words) ∙ omega (arith, length-append (wordsOf termCode rows) (drop (9 * mostRows) before), words-length termCode rows, length-drop (9 * mostRows) before, length-take-le mostRows (allRows (admittedOf (w .value)) (w .value .question)) (omega arith))
+            ap length (m .codes) ∙ omega (arith, length-append (codesOf termCode rows) (drop (9 * mostRows) before), codes-length termCode rows, length-drop (9 * mostRows) before, length-take-le mostRows (allRows (admittedOf (w .value)) (w .value .question)) (omega arith))

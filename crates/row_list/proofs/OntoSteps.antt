@@ -13,12 +13,12 @@ use Rattle.spec.specs.Contents.{entriesIn, partAt}
 use Rattle.spec.specs.Refusals.{Loads}
 use Rattle.spec.proofs.Bytes.BookPasses.{book-loads, question-reads}
 use Rattle.spec.proofs.Bytes.Within.{entries-some}
-use Rattle.codes.specs.Code.{termCode, wordsOf}
+use Rattle.codes.specs.Code.{termCode, codesOf}
 use Rattle.rule_codes.specs.Laid.{QuestionLaid}
 use Rattle.rule_codes.proofs.Stores.{front-length, front-again}
-use Rattle.rule_codes.proofs.WordLaws.{words-length}
+use Rattle.codes.proofs.Padded.{codes-length}
 use Rattle.summary_rows.specs.RowTask.{alone, onto}
-use Rattle.row_list.specs.Tasks.{TargetWords}
+use Rattle.row_list.specs.Tasks.{TargetCodes}
 use Rattle.row_list.specs.Listing.{Sought}
 use Rattle.row_list.specs.Placings.{TargetIs}
 use Rattle.row_list.specs.Turns.{OntoQuestion}
@@ -38,7 +38,7 @@ module _ {book : List ℕ} {area : ℕ} (w : Sought book area) where
     pub question-is : QuestionLaid relations body
     question-is = record { known = rw first (loads-it .relations .arities); rule = w .value .question; layout = question-laid (w .value) (w .sound) }
 
-    module _ {before after : List ℕ} {n : ℕ} (wide : length before ≡ 972) (t : TargetWords relations body before after n) where
+    module _ {before after : List ℕ} {n : ℕ} (wide : length before ≡ 972) (t : TargetCodes relations body before after n) where
       targets-most : (q : Rule ℕ) (l : Layout relations questionMost body q) → length (onto (t .terms q l) q) ≤ 108
       targets-most q l =
           let few = t .all q l .few in
@@ -52,7 +52,7 @@ module _ {book : List ℕ} {area : ℕ} (w : Sought book area) where
       target-long =
           let q = w .value .question in
           let l = question-laid (w .value) (w .sound) in
-          ap length (t .words q l) ∙ front-length (wordsOf termCode (onto (t .terms q l) q)) before (omega (arith, words-length termCode (onto (t .terms q l) q), targets-most q l)) ∙ wide
+          ap length (t .codes q l) ∙ front-length (codesOf termCode (onto (t .terms q l) q)) before (omega (arith, codes-length termCode (onto (t .terms q l) q), targets-most q l)) ∙ wide
 
       pub target-part : length (take (9 * n) after) ≡ 9 * n
       target-part = length-take-le (9 * n) after (omega (arith, target-long, targets-few))
@@ -67,10 +67,10 @@ module _ {book : List ℕ} {area : ℕ} (w : Sought book area) where
           is b s =
               let q = b .question in
               let l = question-laid b s in
-              let words = wordsOf termCode (onto (t .terms q l) q) in
+              let codes = codesOf termCode (onto (t .terms q l) q) in
               record {
                 terms = t .terms q l;
                 all = t .all q l;
-                words = front-again words before _ (9 * n) (t .words q l) (omega (arith, words-length termCode (onto (t .terms q l) q), t .count q l));
+                codes = front-again codes before _ (9 * n) (t .codes q l) (omega (arith, codes-length termCode (onto (t .terms q l) q), t .count q l));
                 marks = zeros-take n 108 targets-few ∙ ap (λ k. replicate k 0) (t .count q l);
               }

@@ -1,4 +1,4 @@
--- The task of one summary's rows, as the words that are lent to the search.
+-- The task of one summary's rows, as the codes that are lent to the search.
 use mathlib.Core.Path.{_≡_, sym, ap, _∙_}
 use mathlib.Core.List.{List, map}
 use Prim.Native.Nat.{ℕ, _*_, _≤_}
@@ -6,21 +6,20 @@ use native.Mathlib.Omega.{arith}
 use lib.ListN.{length, take, replicate, length-append, length-map}
 use lib.Seq.{length-take-le}
 use Rattle.spec.specs.Words.{Rule}
-use Rattle.codes.specs.Code.{slotCode, wordsOf, widthsOf}
+use Rattle.codes.specs.Code.{slotCode, codesOf, widthsOf}
 use Rattle.rule_codes.specs.Promises.{HeadCount}
 use Rattle.rule_codes.proofs.Stores.{front-length, front-again}
-use Rattle.rule_codes.proofs.WordLaws.{words-length}
+use Rattle.codes.proofs.Padded.{codes-length, widths-length}
 use Rattle.task.specs.Task.{Task, posed}
 use Rattle.summary_rows.specs.RowTask.{alone, placed, TaskOf}
-use Rattle.summary_rows.specs.RowsAfter.{Asked, Promised}
+use Rattle.summary_rows.specs.RowsAfter.{RowsNeeds, Promised}
 use Rattle.summary_rows.specs.declared.Tally.{Tally}
-use Rattle.row_list.specs.Tasks.{SummaryIs, SourceWords}
-use Rattle.codes.proofs.Padded.{widths-length}
-use Rattle.row_list.specs.Placings.{Placing, SomePlacing, PlacedRows}
+use Rattle.row_list.specs.Tasks.{SummaryIs, SourceCodes}
+use Rattle.row_list.specs.Placings.{SummaryTask, SomePlacing, PlacedRows}
 use Rattle.spec.proofs.Lists.Zeros.{zeros-take}
 
 module _ {relations bytes target own : List ℕ} {found area : ℕ} (w : SomePlacing relations bytes target own found area)
-    {before source old widths : List ℕ} {n : ℕ} (s : SourceWords relations bytes before source old widths n) (wide : length before ≡ 144) (many : length old ≡ 16) where
+    {before source old widths : List ℕ} {n : ℕ} (s : SourceCodes relations bytes before source old widths n) (wide : length before ≡ 144) (many : length old ≡ 16) where
   few-goals : (v : Rule ℕ) → SummaryIs relations bytes v → length (placed v) ≤ 16
   few-goals v i =
       let heads = i .layout .within .short in
@@ -34,7 +33,7 @@ module _ {relations bytes target own : List ℕ} {found area : ℕ} (w : SomePla
   source-long =
       let v = w .rule in
       let i = w .is .summary in
-      ap length (s .words v i) ∙ front-length (wordsOf slotCode (placed v)) before (omega (arith, words-length slotCode (placed v), few-goals v i)) ∙ wide
+      ap length (s .codes v i) ∙ front-length (codesOf slotCode (placed v)) before (omega (arith, codes-length slotCode (placed v), few-goals v i)) ∙ wide
 
   pub widths-long : length widths ≡ 16
   widths-long =
@@ -55,9 +54,9 @@ module _ {relations bytes target own : List ℕ} {found area : ℕ} (w : SomePla
   lent = posed (take (9 * n) source) (take n widths) (take n (replicate 16 0)) target own
 
   module _ {h : ℕ} (heads : HeadCount bytes h) where
-    task-of : (v q : Rule ℕ) (p : Placing relations bytes target own v q) → TaskOf v q (p .onto .terms) lent h
+    task-of : (v q : Rule ℕ) (p : SummaryTask relations bytes target own v q) → TaskOf v q (p .onto .terms) lent h
     task-of v q p = record {
-      words = λ i. record { source = source-is i; widths = widths-is i; lasts = lasts-is i; target = p .onto .words i; own = p .onto .marks i };
+      codes = λ i. record { source = source-is i; widths = widths-is i; lasts = lasts-is i; target = p .onto .codes i; own = p .onto .marks i };
       long = sym (heads .is relations 8 v (p .summary .layout));
       terms = p .onto .all .all;
       few = p .onto .all .few;
@@ -69,9 +68,9 @@ module _ {relations bytes target own : List ℕ} {found area : ℕ} (w : SomePla
       question = p .question;
     }
       where
-        source-is : take (9 * n) source ≡ wordsOf slotCode (placed v)
+        source-is : take (9 * n) source ≡ codesOf slotCode (placed v)
         source-is =
-            front-again (wordsOf slotCode (placed v)) before _ (9 * n) (s .words v (p .summary)) (omega (arith, words-length slotCode (placed v), s .count v (p .summary)))
+            front-again (codesOf slotCode (placed v)) before _ (9 * n) (s .codes v (p .summary)) (omega (arith, codes-length slotCode (placed v), s .count v (p .summary)))
 
         widths-is : take n widths ≡ widthsOf (placed v)
         widths-is = front-again (widthsOf (placed v)) old _ n (s .widths v (p .summary)) (widths-length (placed v) ∙ sym (s .count v (p .summary)))
@@ -79,7 +78,7 @@ module _ {relations bytes target own : List ℕ} {found area : ℕ} (w : SomePla
         lasts-is : _≡_ {A = List ℕ} (take n (replicate 16 0)) (replicate (length (placed v)) 0)
         lasts-is = zeros-take n 16 goals-few ∙ ap (λ k. replicate k 0) (s .count v (p .summary))
 
-    pub rows-asked : Asked lent h found area
+    pub rows-asked : RowsNeeds lent h found area
     rows-asked = record { rule = w .rule; question = w .question; terms = w .is .onto .terms; task = task-of (w .rule) (w .question) (w .is); few = w .few; room = w .room }
 
     pub rows-placed : {number : ℕ} {out after : List ℕ} {r : Tally} → Promised lent h number found out after r → PlacedRows relations bytes target own number found out after r

@@ -6,17 +6,16 @@ use native.Mathlib.Omega.{arith}
 use lib.ListN.{length, take, drop, replicate, length-append, length-map, length-replicate}
 use lib.Seq.{length-take-le}
 use Rattle.spec.specs.Words.{Term, Rule}
-use Rattle.codes.specs.Code.{slotCode, wordsOf, widthsOf}
+use Rattle.codes.specs.Code.{slotCode, codesOf, widthsOf}
 use Rattle.rule_codes.specs.Codes.{atFront}
 use Rattle.rule_codes.specs.Laid.{LaidFor}
-use Rattle.rule_codes.specs.Promises.{HeadCount, BodyWords, BodyWidths}
+use Rattle.rule_codes.specs.Promises.{HeadCount, BodyCodes, BodyWidths}
 use Rattle.rule_codes.proofs.Stores.{front-length, front-again}
-use Rattle.rule_codes.proofs.WordLaws.{words-length}
+use Rattle.codes.proofs.Padded.{codes-length, codes-append, widths-length}
 use Rattle.summary_rows.specs.RowTask.{alone, placed}
-use Rattle.codes.proofs.Padded.{words-append, widths-length}
-use Rattle.row_list.specs.Alone.{aloneWords}
-use Rattle.row_list.specs.Tasks.{SummaryIs, SomeSummary, HeadSlots, SourceWords}
-use Rattle.row_list.proofs.AloneLaws.{alone-words}
+use Rattle.row_list.specs.Alone.{aloneCodes}
+use Rattle.row_list.specs.Tasks.{SummaryIs, SomeSummary, HeadSlots, SourceCodes}
+use Rattle.row_list.proofs.AloneLaws.{alone-codes}
 use Rattle.row_list.proofs.Behind.{part-long, mid-long, behind}
 use Rattle.row_list.proofs.SlotSteps.{heads-few}
 
@@ -42,19 +41,19 @@ module _ {relations bytes : List ℕ} (w : SomeSummary relations bytes) {h : ℕ
   pub heads-room : {area : ℕ} → 144 ≤ area → 9 * length (take h slots) ≤ area
   heads-room r = omega (arith, shown-long, heads-few count w)
 
-  module _ (source mid : List ℕ) (room : 144 ≤ length source) (written : mid ≡ atFront (aloneWords (take h slots)) source) where
-    heads-long : (v : Rule ℕ) → SummaryIs relations bytes v → length (wordsOf slotCode (map alone (v .head))) ≡ 9 * h
-    heads-long v s = words-length slotCode (map alone (v .head)) ∙ omega (arith, length-map (v .head) alone, count .is relations 8 v (s .layout))
+  module _ (source mid : List ℕ) (room : 144 ≤ length source) (written : mid ≡ atFront (aloneCodes (take h slots)) source) where
+    heads-long : (v : Rule ℕ) → SummaryIs relations bytes v → length (codesOf slotCode (map alone (v .head))) ≡ 9 * h
+    heads-long v s = codes-length slotCode (map alone (v .head)) ∙ omega (arith, length-map (v .head) alone, count .is relations 8 v (s .layout))
 
-    heads-written : (v : Rule ℕ) → SummaryIs relations bytes v → mid ≡ atFront (wordsOf slotCode (map alone (v .head))) source
-    heads-written v s = written ∙ ap (λ l. atFront l source) (ap aloneWords (slots-are v s) ∙ alone-words slotCode (v .head))
+    heads-written : (v : Rule ℕ) → SummaryIs relations bytes v → mid ≡ atFront (codesOf slotCode (map alone (v .head))) source
+    heads-written v s = written ∙ ap (λ l. atFront l source) (ap aloneCodes (slots-are v s) ∙ alone-codes slotCode (v .head))
 
-    body-fits : (v : Rule ℕ) → SummaryIs relations bytes v → 9 * h + length (wordsOf slotCode (v .body)) ≤ length source
-    body-fits v s = let few = s .layout .within .few in omega (arith, words-length slotCode (v .body), heads-few count w)
+    body-fits : (v : Rule ℕ) → SummaryIs relations bytes v → 9 * h + length (codesOf slotCode (v .body)) ≤ length source
+    body-fits v s = let few = s .layout .within .few in omega (arith, codes-length slotCode (v .body), heads-few count w)
 
     source-long : length mid ≡ length source
     source-long =
-        mid-long (wordsOf slotCode (map alone (w .rule .head))) (wordsOf slotCode (w .rule .body)) source mid [] (9 * h) (heads-long (w .rule) (w .is)) (body-fits (w .rule) (w .is)) (heads-written (w .rule) (w .is))
+        mid-long (codesOf slotCode (map alone (w .rule .head))) (codesOf slotCode (w .rule .body)) source mid [] (9 * h) (heads-long (w .rule) (w .is)) (body-fits (w .rule) (w .is)) (heads-written (w .rule) (w .is))
 
     pub source-part : 9 * h ≤ length mid
     source-part = omega (arith, source-long, heads-few count w)
@@ -79,16 +78,16 @@ module _ {relations bytes : List ℕ} (w : SomeSummary relations bytes) {h : ℕ
         room = let few = w .is .layout .within .few in omega (arith, part-long h widths, ap length one, length-replicate {A = ℕ} 16 1, heads-few count w);
       }
 
-      module _ {part tail : List ℕ} {n : ℕ} (words : BodyWords relations bytes slotCode (take (length mid - 9 * h) (drop (9 * h) mid)) part n) (wide : BodyWidths relations bytes (take (length widths - h) (drop h widths)) tail n) where
+      module _ {part tail : List ℕ} {n : ℕ} (codes : BodyCodes relations bytes slotCode (take (length mid - 9 * h) (drop (9 * h) mid)) part n) (wide : BodyWidths relations bytes (take (length widths - h) (drop h widths)) tail n) where
         pub source-goals : h + n ≤ 16
-        source-goals = let few = w .is .layout .within .few in omega (arith, heads-few count w, words .count 8 (w .rule) (w .is .layout))
+        source-goals = let few = w .is .layout .within .few in omega (arith, heads-few count w, codes .count 8 (w .rule) (w .is .layout))
 
-        pub source-words : SourceWords relations bytes source (take (9 * h) mid ++ (part ++ drop (length mid - 9 * h) (drop (9 * h) mid))) widths (take h widths ++ (tail ++ drop (length widths - h) (drop h widths))) (h + n)
-        source-words = record {
-          count = λ v s. omega (arith, count .is relations 8 v (s .layout), words .count 8 v (s .layout), length-append (map alone (v .head)) (v .body), length-map (v .head) alone);
-          words = λ v s.
-              behind (wordsOf slotCode (map alone (v .head))) (wordsOf slotCode (v .body)) source mid part (9 * h) (heads-long v s) (body-fits v s) (heads-written v s) (words .words 8 v (s .layout))
-              ∙ ap (λ l. atFront l source) (sym (words-append slotCode (map alone (v .head)) (v .body)));
+        pub source-codes : SourceCodes relations bytes source (take (9 * h) mid ++ (part ++ drop (length mid - 9 * h) (drop (9 * h) mid))) widths (take h widths ++ (tail ++ drop (length widths - h) (drop h widths))) (h + n)
+        source-codes = record {
+          count = λ v s. omega (arith, count .is relations 8 v (s .layout), codes .count 8 v (s .layout), length-append (map alone (v .head)) (v .body), length-map (v .head) alone);
+          codes = λ v s.
+              behind (codesOf slotCode (map alone (v .head))) (codesOf slotCode (v .body)) source mid part (9 * h) (heads-long v s) (body-fits v s) (heads-written v s) (codes .codes 8 v (s .layout))
+              ∙ ap (λ l. atFront l source) (sym (codes-append slotCode (map alone (v .head)) (v .body)));
           widths = λ v s. widths-are v s;
         }
           where

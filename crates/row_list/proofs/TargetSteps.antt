@@ -8,24 +8,23 @@ use lib.Seq.{length-take-le}
 use Rattle.spec.specs.Words.{Term, Rule}
 use Rattle.spec.specs.RuleLayout.{Layout}
 use Rattle.spec.specs.BookLayout.{questionMost}
-use Rattle.codes.specs.Code.{termCode, wordsOf}
+use Rattle.codes.specs.Code.{termCode, codesOf}
 use Rattle.rule_codes.specs.Codes.{atFront}
 use Rattle.rule_codes.specs.InOrder.{InOrder}
-use Rattle.rule_codes.specs.BodyTerms.{WordOf, BodyTerms}
+use Rattle.rule_codes.specs.BodyTerms.{CodeOf, BodyTerms}
 use Rattle.rule_codes.specs.Laid.{LaidFor, QuestionLaid}
-use Rattle.rule_codes.specs.Promises.{BodyWords}
+use Rattle.rule_codes.specs.Promises.{BodyCodes}
 use Rattle.rule_codes.proofs.Stores.{front-length, front-again}
-use Rattle.rule_codes.proofs.WordLaws.{words-length}
+use Rattle.codes.proofs.Padded.{codes-length, codes-append}
 use Rattle.summary_rows.specs.RowTask.{alone}
-use Rattle.codes.proofs.Padded.{words-append}
-use Rattle.row_list.specs.Alone.{aloneWords}
-use Rattle.row_list.specs.Tasks.{TermsOf, TargetWords}
-use Rattle.row_list.proofs.AloneLaws.{alone-words}
+use Rattle.row_list.specs.Alone.{aloneCodes}
+use Rattle.row_list.specs.Tasks.{TermsOf, TargetCodes}
+use Rattle.row_list.proofs.AloneLaws.{alone-codes}
 use Rattle.row_list.proofs.Behind.{part-long, mid-long, behind}
-use Rattle.row_list.proofs.TermsListed.{termsOf, terms-words, terms-of}
+use Rattle.row_list.proofs.TermsListed.{termsOf, terms-codes, terms-of}
 
 module _ {relations bytes : List ℕ} (laid : QuestionLaid relations bytes) {zeros terms : List ℕ} {n : ℕ} (room : length zeros ≡ 108) (listed : BodyTerms relations bytes zeros terms n) where
-  in-order : (q : Rule ℕ) → Layout relations questionMost bytes q → InOrder (WordOf (q .body)) zeros terms n
+  in-order : (q : Rule ℕ) → Layout relations questionMost bytes q → InOrder (CodeOf (q .body)) zeros terms n
   in-order q l = listed .terms questionMost q l
 
   pub termList : (q : Rule ℕ) → Layout relations questionMost bytes q → List (Term ℕ)
@@ -35,12 +34,12 @@ module _ {relations bytes : List ℕ} (laid : QuestionLaid relations bytes) {zer
   unfolding termList
   all-terms q l = terms-of (laid .known) (l .within) (in-order q l)
 
-  as-words : (q : Rule ℕ) (l : Layout relations questionMost bytes q) → map termCode (termList q l) ≡ in-order q l .list
+  as-codes : (q : Rule ℕ) (l : Layout relations questionMost bytes q) → map termCode (termList q l) ≡ in-order q l .list
   unfolding termList
-  as-words q l = terms-words (laid .known) (l .within) (in-order q l)
+  as-codes q l = terms-codes (laid .known) (l .within) (in-order q l)
 
   terms-count : (q : Rule ℕ) (l : Layout relations questionMost bytes q) → n ≡ length (termList q l)
-  terms-count q l = in-order q l .count ∙ ap length (sym (as-words q l)) ∙ length-map (termList q l) termCode
+  terms-count q l = in-order q l .count ∙ ap length (sym (as-codes q l)) ∙ length-map (termList q l) termCode
 
   pub terms-few : n ≤ 96
   terms-few = omega (arith, terms-count (laid .rule) (laid .layout), all-terms (laid .rule) (laid .layout) .few)
@@ -54,26 +53,26 @@ module _ {relations bytes : List ℕ} (laid : QuestionLaid relations bytes) {zer
   shown-long = length-take-le n terms (omega (arith, terms-long, terms-few))
 
   shown : (q : Rule ℕ) (l : Layout relations questionMost bytes q) → take n terms ≡ map termCode (termList q l)
-  shown q l = front-again (in-order q l .list) zeros _ n (in-order q l .written) (sym (in-order q l .count)) ∙ sym (as-words q l)
+  shown q l = front-again (in-order q l .list) zeros _ n (in-order q l .written) (sym (in-order q l .count)) ∙ sym (as-codes q l)
 
   pub terms-room : {area : ℕ} → 972 ≤ area → 9 * length (take n terms) ≤ area
   terms-room r = omega (arith, shown-long, terms-few)
 
-  module _ (target mid : List ℕ) (area : 972 ≤ length target) (written : mid ≡ atFront (aloneWords (take n terms)) target) where
-    first-long : (q : Rule ℕ) (l : Layout relations questionMost bytes q) → length (wordsOf termCode (map alone (termList q l))) ≡ 9 * n
-    first-long q l = words-length termCode (map alone (termList q l)) ∙ omega (arith, length-map (termList q l) alone, terms-count q l)
+  module _ (target mid : List ℕ) (area : 972 ≤ length target) (written : mid ≡ atFront (aloneCodes (take n terms)) target) where
+    first-long : (q : Rule ℕ) (l : Layout relations questionMost bytes q) → length (codesOf termCode (map alone (termList q l))) ≡ 9 * n
+    first-long q l = codes-length termCode (map alone (termList q l)) ∙ omega (arith, length-map (termList q l) alone, terms-count q l)
 
-    first-written : (q : Rule ℕ) (l : Layout relations questionMost bytes q) → mid ≡ atFront (wordsOf termCode (map alone (termList q l))) target
-    first-written q l = written ∙ ap (λ x. atFront x target) (ap aloneWords (shown q l) ∙ alone-words termCode (termList q l))
+    first-written : (q : Rule ℕ) (l : Layout relations questionMost bytes q) → mid ≡ atFront (codesOf termCode (map alone (termList q l))) target
+    first-written q l = written ∙ ap (λ x. atFront x target) (ap aloneCodes (shown q l) ∙ alone-codes termCode (termList q l))
 
-    body-fits : (q : Rule ℕ) → Layout relations questionMost bytes q → 9 * n + length (wordsOf termCode (q .body)) ≤ length target
-    body-fits q l = let few = l .within .few in omega (arith, words-length termCode (q .body), terms-few)
+    body-fits : (q : Rule ℕ) → Layout relations questionMost bytes q → 9 * n + length (codesOf termCode (q .body)) ≤ length target
+    body-fits q l = let few = l .within .few in omega (arith, codes-length termCode (q .body), terms-few)
 
     target-long : length mid ≡ length target
     target-long =
         let q = laid .rule in
         let l = laid .layout in
-        mid-long (wordsOf termCode (map alone (termList q l))) (wordsOf termCode (q .body)) target mid [] (9 * n) (first-long q l) (body-fits q l) (first-written q l)
+        mid-long (codesOf termCode (map alone (termList q l))) (codesOf termCode (q .body)) target mid [] (9 * n) (first-long q l) (body-fits q l) (first-written q l)
 
     pub target-part : 9 * n ≤ length mid
     target-part = omega (arith, target-long, terms-few)
@@ -86,18 +85,18 @@ module _ {relations bytes : List ℕ} (laid : QuestionLaid relations bytes) {zer
       room = let few = laid .layout .within .few in omega (arith, part-long (9 * n) mid, target-long, terms-few);
     }
 
-    module _ {part : List ℕ} {k : ℕ} (words : BodyWords relations bytes termCode (take (length mid - 9 * n) (drop (9 * n) mid)) part k) where
+    module _ {part : List ℕ} {k : ℕ} (codes : BodyCodes relations bytes termCode (take (length mid - 9 * n) (drop (9 * n) mid)) part k) where
       pub target-goals : n + k ≤ 108
-      target-goals = let few = laid .layout .within .few in omega (arith, terms-few, words .count questionMost (laid .rule) (laid .layout))
+      target-goals = let few = laid .layout .within .few in omega (arith, terms-few, codes .count questionMost (laid .rule) (laid .layout))
 
-      pub target-words : TargetWords relations bytes target (take (9 * n) mid ++ (part ++ drop (length mid - 9 * n) (drop (9 * n) mid))) (n + k)
-      target-words = record {
+      pub target-codes : TargetCodes relations bytes target (take (9 * n) mid ++ (part ++ drop (length mid - 9 * n) (drop (9 * n) mid))) (n + k)
+      target-codes = record {
         terms = termList;
         all = all-terms;
-        count = λ q l. omega (arith, terms-count q l, words .count questionMost q l, length-append (map alone (termList q l)) (q .body), length-map (termList q l) alone);
-        words = λ q l.
-            behind (wordsOf termCode (map alone (termList q l))) (wordsOf termCode (q .body)) target mid part (9 * n) (first-long q l) (body-fits q l) (first-written q l) (words .words questionMost q l)
-            ∙ ap (λ x. atFront x target) (sym (words-append termCode (map alone (termList q l)) (q .body)));
+        count = λ q l. omega (arith, terms-count q l, codes .count questionMost q l, length-append (map alone (termList q l)) (q .body), length-map (termList q l) alone);
+        codes = λ q l.
+            behind (codesOf termCode (map alone (termList q l))) (codesOf termCode (q .body)) target mid part (9 * n) (first-long q l) (body-fits q l) (first-written q l) (codes .codes questionMost q l)
+            ∙ ap (λ x. atFront x target) (sym (codes-append termCode (map alone (termList q l)) (q .body)));
       }
 
 pub widths-room : {relations bytes : List ℕ} → QuestionLaid relations bytes → LaidFor relations bytes 1 12

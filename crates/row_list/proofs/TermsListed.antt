@@ -1,4 +1,4 @@
--- The words of a question's terms, in order, are its terms, in order.
+-- The codes of a question's terms, in order, are its terms, in order.
 use mathlib.Core.Path.{_≡_, refl, sym, ap, ap₂, _∙_, subst}
 use mathlib.Core.List.{List, [], _∷_, map, List·Memᴰ·head, List·Memᴰ·tail, Memᴰ·map, Memᴰ·of-map, Memᴰ·cast}
 use Prim.Native.Nat.{ℕ, _*_, _<_, _≤_}
@@ -17,8 +17,8 @@ use Rattle.spec.specs.BookLayout.{Arities, questionMost}
 use Rattle.spec.proofs.Bytes.Sizes.{terms-few}
 use Rattle.codes.specs.Code.{termCode}
 use Rattle.rule_codes.specs.InOrder.{InOrder}
-use Rattle.rule_codes.specs.BodyTerms.{WordOf}
-use Rattle.search_meaning.specs.Coded.{In}
+use Rattle.rule_codes.specs.BodyTerms.{CodeOf}
+use Rattle.search_meaning.specs.Coded.{TermIn}
 use Rattle.search_meaning.specs.Codings.{readTerm}
 use Rattle.search_meaning.proofs.Read.{read-term}
 use Rattle.summary_rows.proofs.Unique.Rows.{enumerates-once}
@@ -32,10 +32,10 @@ terms-most [] h = omega arith
 terms-most (g ∷ gs) h = omega (arith, length-append (g .terms) (termsIn gs), h g (List·Memᴰ·head refl), terms-most gs (λ k i. h k (List·Memᴰ·tail i)))
 
 -- however they are listed, they are no more than the places where they stand
-terms-listed-few : (gs : List (Subgoal (Term ℕ))) (ts : List (Term ℕ)) → Enumerates (λ t. In t gs) TermBefore ts → length ts ≤ length (termsIn gs)
+terms-listed-few : (gs : List (Subgoal (Term ℕ))) (ts : List (Term ℕ)) → Enumerates (λ t. TermIn t gs) TermBefore ts → length ts ≤ length (termsIn gs)
 terms-listed-few gs ts all = omega (arith, ap length same, sorted-few termOrder (termsIn gs))
   where
-    in-order : Enumerates (λ t. In t gs) TermBefore (sorted termOrder (termsIn gs))
+    in-order : Enumerates (λ t. TermIn t gs) TermBefore (sorted termOrder (termsIn gs))
     in-order = record {
       sound = λ t i. gather-out (λ g. g .terms) gs (sorted-out termOrder (termsIn gs) t i);
       complete = λ t i. sorted-in termOrder (termsIn gs) t (gather-in (λ g. g .terms) gs (i .1) (i .2));
@@ -43,9 +43,9 @@ terms-listed-few gs ts all = omega (arith, ap length same, sorted-few termOrder 
     }
 
     same : ts ≡ sorted termOrder (termsIn gs)
-    same = enumerates-once termOrder (λ t. In t gs) ts (sorted termOrder (termsIn gs)) all in-order
+    same = enumerates-once termOrder (λ t. TermIn t gs) ts (sorted termOrder (termsIn gs)) all in-order
 
--- words sort as terms do
+-- codes sort as terms do
 code-before : (s t : Term ℕ) → TermWithin s → TermWithin t → termCode s < termCode t → TermBefore s t
 code-before (var x) (var y) h k l = omega arith
 code-before (var x) (con d) h k l = tt
@@ -56,37 +56,37 @@ recoded : (ws : List ℕ) → ((w : ℕ) → w ∈ ws → termCode (readTerm w) 
 recoded [] h = refl
 recoded (w ∷ ws) h = ap₂ _∷_ (h w (List·Memᴰ·head refl)) (recoded ws (λ x i. h x (List·Memᴰ·tail i)))
 
-module _ {arities : List ℕ} (known : Arities arities) {q : Rule ℕ} (within : RuleWithin arities questionMost q) {before after : List ℕ} {n : ℕ} (o : InOrder (WordOf (q .body)) before after n) where
+module _ {arities : List ℕ} (known : Arities arities) {q : Rule ℕ} (within : RuleWithin arities questionMost q) {before after : List ℕ} {n : ℕ} (o : InOrder (CodeOf (q .body)) before after n) where
   pub termsOf : List (Term ℕ)
   termsOf = map readTerm (o .list)
 
-  word-within : {w : ℕ} (x : WordOf (q .body) w) → TermWithin (x .term)
-  word-within x = within .body (x .goal) (x .among) (x .term) (x .stands)
+  code-within : {w : ℕ} (x : CodeOf (q .body) w) → TermWithin (x .term)
+  code-within x = within .body (x .goal) (x .among) (x .term) (x .stands)
 
-  word-read : {w : ℕ} (x : WordOf (q .body) w) → readTerm w ≡ x .term
-  word-read x = ap readTerm (x .is) ∙ read-term (x .term) (word-within x)
+  code-read : {w : ℕ} (x : CodeOf (q .body) w) → readTerm w ≡ x .term
+  code-read x = ap readTerm (x .is) ∙ read-term (x .term) (code-within x)
 
-  word-of : {w : ℕ} → w ∈ o .list → WordOf (q .body) w
-  word-of {w} i = o .members w .0 i
+  code-of : {w : ℕ} → w ∈ o .list → CodeOf (q .body) w
+  code-of {w} i = o .members w .0 i
 
-  pub terms-words : map termCode termsOf ≡ o .list
+  pub terms-codes : map termCode termsOf ≡ o .list
   unfolding termsOf
-  terms-words = recoded (o .list) (λ w i. let x = word-of i in ap termCode (word-read x) ∙ sym (x .is))
+  terms-codes = recoded (o .list) (λ w i. let x = code-of i in ap termCode (code-read x) ∙ sym (x .is))
 
-  enumerated : Enumerates (λ t. In t (q .body)) TermBefore termsOf
+  enumerated : Enumerates (λ t. TermIn t (q .body)) TermBefore termsOf
   unfolding termsOf
   enumerated = record {
-    sound = λ t i. let w = Memᴰ·of-map readTerm (o .list) i in let x = word-of (w .1) in subst (λ s. In s (q .body)) (sym (word-read x) ∙ w .2) (x .goal, x .among, x .stands);
+    sound = λ t i. let w = Memᴰ·of-map readTerm (o .list) i in let x = code-of (w .1) in subst (λ s. TermIn s (q .body)) (sym (code-read x) ∙ w .2) (x .goal, x .among, x .stands);
     complete = λ t i. Memᴰ·cast (sym (read-term t (within .body (i .0) (i .1) t (i .2)))) (Memᴰ·map readTerm (o .members (termCode t) .1 record { goal = i .0; among = i .1; term = t; stands = i .2; is = refl }));
     rising = rising-map _<_ TermBefore readTerm (o .list) (o .rising) earlier;
   }
     where
       earlier : (a b : ℕ) → a ∈ o .list → b ∈ o .list → a < b → TermBefore (readTerm a) (readTerm b)
       earlier a b i j h =
-          let x = word-of i in
-          let y = word-of j in
+          let x = code-of i in
+          let y = code-of j in
           let l : termCode (x .term) < termCode (y .term) = rw (← x .is, ← y .is) h in
-          rw (word-read x, word-read y) (code-before (x .term) (y .term) (word-within x) (word-within y) l)
+          rw (code-read x, code-read y) (code-before (x .term) (y .term) (code-within x) (code-within y) l)
 
   pub terms-of : TermsOf q termsOf
   terms-of = record { all = enumerated; few = omega (arith, terms-listed-few (q .body) termsOf enumerated, terms-most (q .body) (λ g i. terms-few known g (within .fit g i) .1), within .few) }

@@ -18,7 +18,7 @@ use Rattle.summary_rows.specs.declared.Tally.{Tally}
 use Rattle.admission.specs.Admission.{HasSummary, SaysIn}
 use Rattle.admission.proofs.Standing.{standing}
 use Rattle.row_list.specs.Tasks.{SummaryIs}
-use Rattle.row_list.specs.Placings.{Placing, SomePlacing, PlacedRows}
+use Rattle.row_list.specs.Placings.{SummaryTask, SomePlacing, PlacedRows}
 use Rattle.row_list.specs.Turns.{OntoQuestion, TurnSays}
 
 module _ {book : List ℕ} {i : ℕ} (has : HasSummary book i) where
@@ -32,7 +32,7 @@ module _ {book : List ℕ} {i : ℕ} (has : HasSummary book i) where
           rw one record { layout = summary-reads s (suc k) u e; plain = s .value .summaries u (place-in (b .summaries) (suc k) u e) .plain }
 
   module _ {target own : List ℕ} (onto : OntoQuestion book target own) {relations body : List ℕ} (first : relations ≡ partAt book 0) (part : body ≡ partAt book (i + 1)) where
-    placing-of : (b : Book) → SoundBook book b → (u : Summary) → place (b .summaries) i ≡ some u → Placing relations body target own (u .rule) (b .question)
+    placing-of : (b : Book) → SoundBook book b → (u : Summary) → place (b .summaries) i ≡ some u → SummaryTask relations body target own (u .rule) (b .question)
     placing-of b s u p = rw (first, part) record {
       known = book-loads s .relations .arities;
       summary = summary-is b s u p;

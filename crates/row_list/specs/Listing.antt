@@ -8,32 +8,32 @@ use Rattle.spec.specs.Summaries.{Summaries}
 use Rattle.spec.proofs.Decided.Rows.{allRows}
 use Rattle.spec.specs.Book.{Book, admittedOf}
 use Rattle.spec.specs.BookLayout.{SoundBook}
-use Rattle.codes.specs.Code.{termCode, wordsOf}
+use Rattle.codes.specs.Code.{termCode, codesOf}
 use Rattle.spec.specs.Table.{mostRows}
-use Rattle.row_list.specs.declared.Listed.{Listed}
-use Rattle.row_list.specs.declared.Listed.the-variants.{All, Over}
+use Rattle.row_list.specs.declared.RowsListed.{RowsListed}
+use Rattle.row_list.specs.declared.RowsListed.the-variants.{All, Over}
 
--- Some sound book, and room for 64 rows of nine words.
+-- Some sound book, and room for 64 rows of nine codes.
 pub record Sought (book : List ℕ) (area : ℕ) : Type 0 where
   pub value : Book
   pub sound : SoundBook book value
   pub room : 9 * mostRows ≤ area
 
 module _ (s : Summaries) (q : Rule ℕ) (before after : List ℕ) where
-  -- There are n summary rows, at most 64, and their words stand at the front; the words behind them stay.
+  -- There are n summary rows, at most 64, and their codes stand at the front; the codes behind them stay.
   pub record AllStand (n : ℕ) : Type 0 where
     pub count : n ≡ length (allRows s q)
     pub few : n ≤ mostRows
-    pub words : after ≡ wordsOf termCode (allRows s q) ++ drop (9 * n) before
+    pub codes : after ≡ codesOf termCode (allRows s q) ++ drop (9 * n) before
 
-  -- "more than 64 summary rows": the first 64 stand at the front, and the words behind them stay.
-  pub record TooMany : Type 0 where
+  -- "more than 64 summary rows": the first 64 stand at the front, and the codes behind them stay.
+  pub record RowsOver : Type 0 where
     pub many : mostRows < length (allRows s q)
-    pub words : after ≡ wordsOf termCode (take mostRows (allRows s q)) ++ drop (9 * mostRows) before
+    pub codes : after ≡ codesOf termCode (take mostRows (allRows s q)) ++ drop (9 * mostRows) before
 
-  abbrev pub ListedSays : Listed → Type 0
+  abbrev pub ListedSays : RowsListed → Type 0
   ListedSays (All n) = AllStand n
-  ListedSays Over = TooMany
+  ListedSays Over = RowsOver
 
-pub record Listing (book before after : List ℕ) (r : Listed) : Type 0 where
+pub record ListSays (book before after : List ℕ) (r : RowsListed) : Type 0 where
   pub says : (b : Book) → SoundBook book b → ListedSays (admittedOf b) (b .question) before after r

@@ -6,22 +6,22 @@ use lib.ListN.{length, replicate}
 use Rattle.spec.specs.Words.{Term, Rule, Safe}
 use Rattle.spec.specs.RuleLayout.{RuleWithin}
 use Rattle.spec.specs.BookLayout.{Arities, questionMost}
-use Rattle.codes.specs.Code.{termCode, wordsOf}
+use Rattle.codes.specs.Code.{termCode, codesOf}
 use Rattle.summary_rows.specs.RowTask.{onto}
 use Rattle.summary_rows.specs.RowsAfter.{RowsAfter}
 use Rattle.spec.specs.Table.{mostRows}
 use Rattle.summary_rows.specs.declared.Tally.{Tally}
 use Rattle.row_list.specs.Tasks.{SummaryIs, TermsOf}
 
--- The target's words, and a 0 for each: they are all of one row, which is in use.
+-- The target's codes, and a 0 for each: they are all of one row, which is in use.
 pub record TargetIs (q : Rule ℕ) (target own : List ℕ) : Type 0 where
   pub terms : List (Term ℕ)
   pub all : TermsOf q terms
-  pub words : target ≡ wordsOf termCode (onto terms q)
+  pub codes : target ≡ codesOf termCode (onto terms q)
   pub marks : own ≡ replicate (length (onto terms q)) 0
 
 -- A sound summary v as bytes, and the target that a sound question q makes.
-pub record Placing (relations bytes target own : List ℕ) (v q : Rule ℕ) : Type 0 where
+pub record SummaryTask (relations bytes target own : List ℕ) (v q : Rule ℕ) : Type 0 where
   pub known : Arities relations
   pub summary : SummaryIs relations bytes v
   pub safe : Safe v
@@ -31,9 +31,9 @@ pub record Placing (relations bytes target own : List ℕ) (v q : Rule ℕ) : Ty
 pub record SomePlacing (relations bytes target own : List ℕ) (found area : ℕ) : Type 0 where
   pub rule : Rule ℕ
   pub question : Rule ℕ
-  pub is : Placing relations bytes target own rule question
+  pub is : SummaryTask relations bytes target own rule question
   pub few : found ≤ mostRows
   pub room : 9 * mostRows ≤ area
 
 pub record PlacedRows (relations bytes target own : List ℕ) (number found : ℕ) (before after : List ℕ) (r : Tally) : Type 0 where
-  pub rows : (v q : Rule ℕ) → Placing relations bytes target own v q → RowsAfter number v q found before after r
+  pub rows : (v q : Rule ℕ) → SummaryTask relations bytes target own v q → RowsAfter number v q found before after r

@@ -8,9 +8,9 @@ use Rattle.spec.specs.Order.{TermBefore}
 use Rattle.spec.proofs.Lists.Enumerate.{Enumerates}
 use Rattle.spec.specs.RuleLayout.{Layout}
 use Rattle.spec.specs.BookLayout.{questionMost, summaryMost}
-use Rattle.codes.specs.Code.{termCode, slotCode, wordsOf, widthsOf}
+use Rattle.codes.specs.Code.{termCode, slotCode, codesOf, widthsOf}
 use Rattle.rule_codes.specs.Codes.{atFront}
-use Rattle.search_meaning.specs.Coded.{In}
+use Rattle.search_meaning.specs.Coded.{TermIn}
 use Rattle.summary_rows.specs.RowTask.{placed, onto}
 
 -- The bytes are a summary's: "a rule whose head is distinct variables".
@@ -26,21 +26,21 @@ pub record SomeSummary (relations bytes : List ℕ) : Type 0 where
 pub record HeadSlots (bytes slots : List ℕ) : Type 0 where
   pub is : (relations : List ℕ) (v : Rule ℕ) → SummaryIs relations bytes v → slots ≡ atFront (map slotCode (v .head)) (replicate 8 0)
 
--- The source's words and widths at the front of two areas; n source subgoals.
-pub record SourceWords (relations bytes before after old new : List ℕ) (n : ℕ) : Type 0 where
+-- The source's codes and widths at the front of two areas; n source subgoals.
+pub record SourceCodes (relations bytes before after old new : List ℕ) (n : ℕ) : Type 0 where
   pub count : (v : Rule ℕ) → SummaryIs relations bytes v → n ≡ length (placed v)
-  pub words : (v : Rule ℕ) → SummaryIs relations bytes v → after ≡ atFront (wordsOf slotCode (placed v)) before
+  pub codes : (v : Rule ℕ) → SummaryIs relations bytes v → after ≡ atFront (codesOf slotCode (placed v)) before
   pub widths : (v : Rule ℕ) → SummaryIs relations bytes v → new ≡ atFront (widthsOf (placed v)) old
 
 -- The question's terms, "Variables sort before constants, each by number", each once.
 pub record TermsOf (q : Rule ℕ) (ts : List (Term ℕ)) : Type 0 where
-  pub all : Enumerates (λ t. In t (q .body)) TermBefore ts
+  pub all : Enumerates (λ t. TermIn t (q .body)) TermBefore ts
   -- 12 subgoals of at most 8 terms
   pub few : length ts ≤ 96
 
--- The target's words at the front of an area; n targets.
-pub record TargetWords (relations bytes before after : List ℕ) (n : ℕ) : Type 0 where
+-- The target's codes at the front of an area; n targets.
+pub record TargetCodes (relations bytes before after : List ℕ) (n : ℕ) : Type 0 where
   pub terms : (q : Rule ℕ) → Layout relations questionMost bytes q → List (Term ℕ)
   pub all : (q : Rule ℕ) (l : Layout relations questionMost bytes q) → TermsOf q (terms q l)
   pub count : (q : Rule ℕ) (l : Layout relations questionMost bytes q) → n ≡ length (onto (terms q l) q)
-  pub words : (q : Rule ℕ) (l : Layout relations questionMost bytes q) → after ≡ atFront (wordsOf termCode (onto (terms q l) q)) before
+  pub codes : (q : Rule ℕ) (l : Layout relations questionMost bytes q) → after ≡ atFront (codesOf termCode (onto (terms q l) q)) before

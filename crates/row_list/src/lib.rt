@@ -1,5 +1,5 @@
-// All summary rows of a sound book, in order, as words.
-ghost use Rattle.row_list.specs.Listing.{Sought, Listing};
+// All summary rows of a sound book, in order, as codes.
+ghost use Rattle.row_list.specs.Listing.{Sought, ListSays};
 ghost use Rattle.row_list.specs.Placings.{SomePlacing, PlacedRows};
 ghost use Rattle.row_list.specs.Turns.{OntoQuestion, Turn, TurnSays};
 ghost use lib.ListN.{length};
@@ -18,7 +18,7 @@ use summary_rows::Tally;
 use summary_rows::rows_of;
 
 // All summary rows, so many; or there are more than 64.
-pub enum Listed {
+pub enum RowsListed {
     All(usize),
     Over,
 }
@@ -78,9 +78,9 @@ fn rows_at(
 }
 
 // The summaries in order; the 65th row ends the listing.
-fn list_onto(book: &[u8], target: &[u64], own: &[u8], out: &mut [u64]) -> Listed
+fn list_onto(book: &[u8], target: &[u64], own: &[u8], out: &mut [u64]) -> RowsListed
     requires { ⌜ Sought (now book) (length (now out)) × OntoQuestion (now book) (now target) (now own) ⌝ }
-    ensures { λ r. ⌜ Listing (now (book .entry)) (now (out .entry)) (now (out .exit)) r ⌝ }
+    ensures { λ r. ⌜ ListSays (now (book .entry)) (now (out .entry)) (now (out .exit)) r ⌝ }
 {
     let n = count_of(book);
     let mut found: usize = 0;
@@ -88,18 +88,18 @@ fn list_onto(book: &[u8], target: &[u64], own: &[u8], out: &mut [u64]) -> Listed
     while i < n {
         let r = rows_at(book, i + 1, target, own, found, out);
         if r.over {
-            return Listed::Over;
+            return RowsListed::Over;
         }
         found = r.count;
         i += 1;
     }
-    Listed::All(found)
+    RowsListed::All(found)
 }
 
-// All summary rows of a sound book, nine words each, at the front of `out`.
-pub fn list_rows(book: &[u8], out: &mut [u64]) -> Listed
+// All summary rows of a sound book, nine codes each, at the front of `out`.
+pub fn list_rows(book: &[u8], out: &mut [u64]) -> RowsListed
     requires { ⌜ Sought (now book) (length (now out)) ⌝ }
-    ensures { λ r. ⌜ Listing (now (book .entry)) (now (out .entry)) (now (out .exit)) r ⌝ }
+    ensures { λ r. ⌜ ListSays (now (book .entry)) (now (out .entry)) (now (out .exit)) r ⌝ }
 {
     let mut target = [0u64; 972];
     let targets = put_target(part_of(book, 1), part_of(book, 0), &mut target);

@@ -1,17 +1,17 @@
-// One summary and the question's body as a task of the search, in words: its mappings give the summary's rows.
+// One summary and the question's body as a task of the search, in codes: its mappings give the summary's rows.
 ghost use mathlib.Core.Path.{_≡_};
 ghost use Prim.Native.Nat.{_*_, _≤_};
 ghost use lib.ListN.{length, replicate};
 ghost use Rattle.rule_codes.specs.Codes.{atFront};
 ghost use Rattle.rule_codes.specs.Laid.{QuestionLaid};
-ghost use Rattle.row_list.specs.Alone.{aloneWord, aloneWords};
-ghost use Rattle.row_list.specs.Tasks.{SomeSummary, HeadSlots, SourceWords, TargetWords};
+ghost use Rattle.row_list.specs.Alone.{aloneCode, aloneCodes};
+ghost use Rattle.row_list.specs.Tasks.{SomeSummary, HeadSlots, SourceCodes, TargetCodes};
 use codes::NONE;
 use codes::QUESTION_CODES;
 use codes::SUBGOAL_CODES;
 use numbers::u32_at;
-use rule_codes::bodies::slot_words;
-use rule_codes::bodies::term_words;
+use rule_codes::bodies::slot_codes;
+use rule_codes::bodies::term_codes;
 use rule_codes::places::head_count;
 use rule_codes::questions::body_terms;
 use spec::MOST_HEAD;
@@ -20,28 +20,28 @@ use spec::QUESTION_GOALS;
 // The relation of a head's places and of the terms that they are placed on: no rule's, since relations are numbered from 0 and there are at most 32.
 const HEAD: u64 = 255;
 
-// Word k of a subgoal of one term.
-fn alone_word(word: u64, k: usize) -> u64
-    ensures { λ r. ⌜ r ≡ aloneWord word k ⌝ }
+// Code k of a subgoal of one term.
+fn alone_code(code: u64, k: usize) -> u64
+    ensures { λ r. ⌜ r ≡ aloneCode code k ⌝ }
 {
     if k == 0 {
         return HEAD;
     }
     if k == 1 {
-        return word;
+        return code;
     }
     NONE
 }
 
-// A subgoal of one term for each of the words, at the front of `out`.
-fn put_alone(words: &[u64], out: &mut [u64])
-    requires { ⌜ 9 * length (now words) ≤ length (now out) ⌝ }
-    ensures { λ _. ⌜ now (out .exit) ≡ atFront (aloneWords (now (words .entry))) (now (out .entry)) ⌝ }
+// A subgoal of one term for each of the codes, at the front of `out`.
+fn put_alone(codes: &[u64], out: &mut [u64])
+    requires { ⌜ 9 * length (now codes) ≤ length (now out) ⌝ }
+    ensures { λ _. ⌜ now (out .exit) ≡ atFront (aloneCodes (now (codes .entry))) (now (out .entry)) ⌝ }
 {
-    let all = SUBGOAL_CODES * words.len();
+    let all = SUBGOAL_CODES * codes.len();
     let mut k: usize = 0;
     while k < all {
-        out[k] = alone_word(words[k / SUBGOAL_CODES], k % SUBGOAL_CODES);
+        out[k] = alone_code(codes[k / SUBGOAL_CODES], k % SUBGOAL_CODES);
         k += 1;
     }
 }
@@ -61,17 +61,17 @@ fn head_slots(body: &[u8], relations: &[u8]) -> [u64; MOST_HEAD]
     slots
 }
 
-// The source: the head's places, then the body. Its words and widths stand at the front of what is lent; a head's place has one term, which the widths
+// The source: the head's places, then the body. Its codes and widths stand at the front of what is lent; a head's place has one term, which the widths
 // say from the start. Returns how many source subgoals there are.
 pub fn put_source(body: &[u8], relations: &[u8], source: &mut [u64], widths: &mut [u8]) -> usize
     requires { ⌜ SomeSummary (now relations) (now body) × (144 ≤ length (now source)) × (now widths ≡ replicate 16 1) ⌝ }
-    ensures { λ r. ⌜ SourceWords (now (relations .entry)) (now (body .entry)) (now (source .entry)) (now (source .exit)) (now (widths .entry)) (now (widths .exit)) r ⌝ }
+    ensures { λ r. ⌜ SourceCodes (now (relations .entry)) (now (body .entry)) (now (source .entry)) (now (source .exit)) (now (widths .entry)) (now (widths .exit)) r ⌝ }
 {
     let heads = head_count(body);
     let slots = head_slots(body, relations);
     put_alone(&slots[..heads], source);
     heads
-        + slot_words(
+        + slot_codes(
             body,
             relations,
             &mut source[SUBGOAL_CODES * heads..],
@@ -82,14 +82,14 @@ pub fn put_source(body: &[u8], relations: &[u8], source: &mut [u64], widths: &mu
 // The target: the question's terms in ascending order, then its body. Returns how many targets there are.
 pub fn put_target(body: &[u8], relations: &[u8], target: &mut [u64]) -> usize
     requires { ⌜ QuestionLaid (now relations) (now body) × (972 ≤ length (now target)) ⌝ }
-    ensures { λ r. ⌜ TargetWords (now (relations .entry)) (now (body .entry)) (now (target .entry)) (now (target .exit)) r ⌝ }
+    ensures { λ r. ⌜ TargetCodes (now (relations .entry)) (now (body .entry)) (now (target .entry)) (now (target .exit)) r ⌝ }
 {
     let mut terms = [0u64; QUESTION_CODES];
     let count = body_terms(body, relations, &mut terms);
     put_alone(&terms[..count], target);
     let mut widths = [0u8; QUESTION_GOALS];
     count
-        + term_words(
+        + term_codes(
             body,
             relations,
             &mut target[SUBGOAL_CODES * count..],

@@ -1,4 +1,4 @@
--- A head's words and bindings, term by term.
+-- A head's codes and bindings, term by term.
 use mathlib.Core.Path.{_≡_, refl, sym, ap, _∙_, subst}
 use mathlib.Core.Bool.{Bool, true, false, cond}
 use mathlib.Core.Logic.{_⊎_, inl, inr, ⊎-elim}
@@ -18,7 +18,7 @@ use Rattle.spec.proofs.Lists.Places.{place-some}
 use Rattle.spec.proofs.Bytes.RulePlaces.{head-terms}
 use Rattle.codes.specs.Code.{variableTag, termCode, padded}
 use Rattle.rule_codes.specs.Codes.{tabled}
-use Rattle.rule_codes.specs.Heads.{HeadWords, HeadBindings}
+use Rattle.rule_codes.specs.Heads.{HeadCodes, HeadBindings}
 use Rattle.rule_codes.specs.Laid.{Laid}
 use Rattle.rule_codes.specs.Promises.{HeadCount}
 use Rattle.rule_codes.specs.Steps.{Many, SomeTerms}
@@ -36,7 +36,7 @@ module _ {bytes : List ℕ} {n : ℕ} (count : HeadCount bytes n) where
   pub head-there : Laid bytes → SomeTerms bytes 2 n
   head-there w = record { terms = w .rule .head; here = head-many (w .layout) }
 
-  pub head-end : {table before after : List ℕ} {k : ℕ} → BaseTable variableTag 32 table → length before ≡ 8 → 8 ≤ k → TermsStored bytes 2 n 0 table before k after → HeadWords bytes after
+  pub head-end : {table before after : List ℕ} {k : ℕ} → BaseTable variableTag 32 table → length before ≡ 8 → 8 ≤ k → TermsStored bytes 2 n 0 table before k after → HeadCodes bytes after
   head-end {table} {before} {after} {k} b h e s = record {
     is = λ a m r l.
         eight-end bytes 2 n table before k after h e s (r .head) (head-many l)

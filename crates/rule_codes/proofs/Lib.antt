@@ -7,10 +7,9 @@ pub mod QuestionTerms
 pub mod SoFar
 pub mod Stores
 pub mod TableSteps
+pub mod TermCodes
 pub mod TermSteps
-pub mod TermWords
 pub mod Unique
 pub mod UseLaws
 pub mod WalkSteps
 pub mod Walks
-pub mod WordLaws

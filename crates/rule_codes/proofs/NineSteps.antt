@@ -1,4 +1,4 @@
--- Terms' words stored one after the other, and the nine words of a subgoal.
+-- Terms' codes stored one after the other, and the nine codes of a subgoal.
 use mathlib.Core.Path.{_≡_, refl, sym, ap, ap₂, _∙_}
 use mathlib.Core.List.{List, _∷_, map}
 use Prim.Native.Nat.{ℕ, suc, _+_, _<_, _≤_}
@@ -10,7 +10,7 @@ use Rattle.codes.specs.Code.{padded}
 use Rattle.rule_codes.specs.Codes.{tabled}
 use Rattle.rule_codes.specs.Steps.{Many, GoalAt, PaddedAt, NineAt}
 use Rattle.rule_codes.proofs.Stores.{stores-more, stores-end, stores-whole}
-use Rattle.rule_codes.proofs.WordLaws.{padded-length, padded-at}
+use Rattle.codes.proofs.Padded.{padded-length, padded-at}
 
 module _ (bytes : List ℕ) (at many to : ℕ) (table before : List ℕ) where
   -- The area after k of the eight terms, from `to` on.
@@ -21,16 +21,16 @@ module _ (bytes : List ℕ) (at many to : ℕ) (table before : List ℕ) where
   pub terms-start : TermsStored 0 before
   terms-start = record { long = refl; is = λ ts h. refl }
 
-  pub terms-go : (k : ℕ) (after : List ℕ) (place word : ℕ) → k < 8 → place ≡ to + k → TermsStored k after → PaddedAt bytes at many k table word → TermsStored (k + 1) (set after place word)
-  terms-go k after place word h q s p = record { long = length-set after place word ∙ s .long; is = is }
+  pub terms-go : (k : ℕ) (after : List ℕ) (place code : ℕ) → k < 8 → place ≡ to + k → TermsStored k after → PaddedAt bytes at many k table code → TermsStored (k + 1) (set after place code)
+  terms-go k after place code h q s p = record { long = length-set after place code ∙ s .long; is = is }
     where
-      is : (ts : List (Term ℕ)) → Many bytes at many ts → set after place word ≡ sets before to (take (k + 1) (padded 8 (map (tabled table) ts)))
+      is : (ts : List (Term ℕ)) → Many bytes at many ts → set after place code ≡ sets before to (take (k + 1) (padded 8 (map (tabled table) ts)))
       is ts w =
-          let words = padded 8 (map (tabled table) ts) in
-          let n : length words ≡ 8 = padded-length 8 (map (tabled table) ts) in
-          let e : word ≡ getD words k 0 = p .is ts w ∙ sym (padded-at 8 (map (tabled table) ts) k h) in
+          let codes = padded 8 (map (tabled table) ts) in
+          let n : length codes ≡ 8 = padded-length 8 (map (tabled table) ts) in
+          let e : code ≡ getD codes k 0 = p .is ts w ∙ sym (padded-at 8 (map (tabled table) ts) k h) in
           let one : k + 1 ≡ suc k = omega arith in
-          ap₂ (λ a j. set a j word) (s .is ts w) q ∙ stores-more before to words k word (omega arith) e ∙ ap (λ j. sets before to (take j words)) (sym one)
+          ap₂ (λ a j. set a j code) (s .is ts w) q ∙ stores-more before to codes k code (omega arith) e ∙ ap (λ j. sets before to (take j codes)) (sym one)
 
   pub terms-end : (k : ℕ) (after : List ℕ) → 8 ≤ k → TermsStored k after → (ts : List (Term ℕ)) → Many bytes at many ts → after ≡ sets before to (padded 8 (map (tabled table) ts))
   terms-end k after h s ts w = s .is ts w ∙ stores-end before to (padded 8 (map (tabled table) ts)) k (let n = padded-length 8 (map (tabled table) ts) in omega arith)

@@ -12,11 +12,11 @@ use Rattle.spec.specs.Summaries.{place}
 use Rattle.spec.specs.RuleLayout.{Layout}
 use Rattle.spec.proofs.Bytes.RulePlaces.{goal-count}
 use Rattle.spec.proofs.Lists.Places.{place-less, nothing}
-use Rattle.codes.specs.Code.{subgoalWords, wordsOf, widthsOf}
+use Rattle.codes.specs.Code.{subgoalCodes, codesOf, widthsOf}
 use Rattle.rule_codes.specs.Codes.{tabled, atFront}
 use Rattle.rule_codes.specs.Laid.{LaidFor}
 use Rattle.rule_codes.proofs.Stores.{front-more, front-length}
-use Rattle.rule_codes.proofs.WordLaws.{nine, words-length, words-more, widths-more}
+use Rattle.codes.proofs.Padded.{codes-more, widths-more, nine, codes-length}
 
 -- What is written of a subgoal, always as many, and of a list of them.
 pub record Writing : Type 0 where
@@ -31,11 +31,11 @@ pub record Writing : Type 0 where
 abbrev pub byTable : List ℕ → Writing
 byTable table = record {
   size = 9;
-  one = subgoalWords (tabled table);
-  all = wordsOf (tabled table);
+  one = subgoalCodes (tabled table);
+  all = codesOf (tabled table);
   none = refl;
-  more = words-more (tabled table);
-  long = words-length (tabled table);
+  more = codes-more (tabled table);
+  long = codes-length (tabled table);
   each = nine (tabled table);
 }
 
@@ -61,24 +61,24 @@ take-place (b ∷ l) zero a p = let same : b ≡ a = cc in ap (λ c. c ∷ []) s
 take-place (b ∷ l) (suc i) a p = ap (_∷_ b) (take-place l i a p)
 
 -- The next subgoal of a rule is stored behind those before it.
-pub record Stored (w : Writing) (i : ℕ) (after next : List ℕ) (r : Rule ℕ) : Type 0 where
+pub record SubgoalStored (w : Writing) (i : ℕ) (after next : List ℕ) (r : Rule ℕ) : Type 0 where
   pub goal : Subgoal (Term ℕ)
   pub place : place (r .body) (suc i) ≡ some goal
   pub stored : next ≡ sets after (w .size * i) (w .one goal)
 
 module _ (w : Writing) (arities bytes before : List ℕ) where
   -- The area after i subgoals.
-  pub record SoFar (i : ℕ) (after : List ℕ) : Type 0 where
+  pub record SubgoalsWritten (i : ℕ) (after : List ℕ) : Type 0 where
     pub is : (most : ℕ) (r : Rule ℕ) → Layout arities most bytes r → after ≡ atFront (w .all (take i (r .body))) before
 
-  pub so-starts : SoFar 0 before
+  pub so-starts : SubgoalsWritten 0 before
   so-starts = record { is = λ m r l. sym (ap (λ f. atFront f before) (w .none)) }
 
-  pub so-ends : (i : ℕ) (after : List ℕ) → SoFar i after → (most : ℕ) (r : Rule ℕ) → Layout arities most bytes r → length (r .body) ≤ i → after ≡ atFront (w .all (r .body)) before
+  pub so-ends : (i : ℕ) (after : List ℕ) → SubgoalsWritten i after → (most : ℕ) (r : Rule ℕ) → Layout arities most bytes r → length (r .body) ≤ i → after ≡ atFront (w .all (r .body)) before
   so-ends i after s most r l h = s .is most r l ∙ ap (λ gs. atFront (w .all gs) before) (take-all i (r .body) h)
 
   module _ (room : LaidFor arities bytes (w .size) (length before)) where
-    module _ (i : ℕ) (after : List ℕ) (s : SoFar i after) where
+    module _ (i : ℕ) (after : List ℕ) (s : SubgoalsWritten i after) where
       front-size : (most : ℕ) (r : Rule ℕ) → Layout arities most bytes r → i ≤ length (r .body) → length (w .all (take i (r .body))) ≡ w .size * i
       front-size most r l h = w .long (take i (r .body)) ∙ ap (λ k. w .size * k) (length-take-le i (r .body) h)
 
@@ -94,7 +94,7 @@ module _ (w : Writing) (arities bytes before : List ℕ) where
           ap length (s .is (room .most) (room .rule) (room .layout))
           ∙ front-length (w .all (take i (room .rule .body))) before (rw (front-size (room .most) (room .rule) (room .layout) h) (enough i h))
 
-      pub so-goes : (next : List ℕ) → ((most : ℕ) (r : Rule ℕ) → Layout arities most bytes r → Stored w i after next r) → SoFar (i + 1) next
+      pub so-goes : (next : List ℕ) → ((most : ℕ) (r : Rule ℕ) → Layout arities most bytes r → SubgoalStored w i after next r) → SubgoalsWritten (i + 1) next
       so-goes next stored = record { is = is }
         where
           is : (most : ℕ) (r : Rule ℕ) → Layout arities most bytes r → next ≡ atFront (w .all (take (i + 1) (r .body))) before

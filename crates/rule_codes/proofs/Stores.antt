@@ -1,4 +1,4 @@
--- Words stored one after the other: into an area from a place on, and at the front of an area.
+-- Codes stored one after the other: into an area from a place on, and at the front of an area.
 use mathlib.Core.Path.{_≡_, refl, sym, ap, ap₂, _∙_}
 use mathlib.Core.Bool.{Bool, true, false, cond}
 use mathlib.Core.List.{List, [], _++_, append-nil}
@@ -11,29 +11,29 @@ use borrow.Author.Tests.{eqb-true, eqb-false}
 use Rattle.rule_codes.specs.Codes.{atFront}
 use Rattle.spec.proofs.Lists.Stores.{sets-more}
 
-module _ (before : List ℕ) (to : ℕ) (words : List ℕ) where
-  -- the area with the first k words stored
-  pub stores-more : (k v : ℕ) → k < length words → v ≡ getD words k 0 → set (sets before to (take k words)) (to + k) v ≡ sets before to (take (suc k) words)
+module _ (before : List ℕ) (to : ℕ) (codes : List ℕ) where
+  -- the area with the first k codes stored
+  pub stores-more : (k v : ℕ) → k < length codes → v ≡ getD codes k 0 → set (sets before to (take k codes)) (to + k) v ≡ sets before to (take (suc k) codes)
   stores-more k v h e =
-      let n : length (take k words) ≡ k = length-take-le k words (omega arith) in
-      ap₂ (λ j w. set (sets before to (take k words)) (to + j) w) (sym n) e ∙ sets-more before to (take k words) (getD words k 0) ∙ ap (sets before to) (sym (take-suc words k 0 h))
+      let n : length (take k codes) ≡ k = length-take-le k codes (omega arith) in
+      ap₂ (λ j w. set (sets before to (take k codes)) (to + j) w) (sym n) e ∙ sets-more before to (take k codes) (getD codes k 0) ∙ ap (sets before to) (sym (take-suc codes k 0 h))
 
-  pub stores-end : (k : ℕ) → length words ≤ k → sets before to (take k words) ≡ sets before to words
-  stores-end k h = ap (sets before to) (take-all k words h)
+  pub stores-end : (k : ℕ) → length codes ≤ k → sets before to (take k codes) ≡ sets before to codes
+  stores-end k h = ap (sets before to) (take-all k codes h)
 
 -- all of an area stored
-pub stores-whole : (before words : List ℕ) → length words ≡ length before → sets before 0 words ≡ words
-stores-whole before words h = sets-eq words before 0 (omega arith) ∙ ap (λ l. words ++ l) (over (length words) before (omega arith)) ∙ append-nil words
+pub stores-whole : (before codes : List ℕ) → length codes ≡ length before → sets before 0 codes ≡ codes
+stores-whole before codes h = sets-eq codes before 0 (omega arith) ∙ ap (λ l. codes ++ l) (over (length codes) before (omega arith)) ∙ append-nil codes
   where
     over : (n : ℕ) (l : List ℕ) → length l ≤ n → drop (0 + n) l ≡ []
     over n l h = let z : 0 + n ≡ n = omega arith in rw z (drop-of-length-le l h)
 
--- more words at the front
-pub front-more : (front words all : List ℕ) → length front + length words ≤ length all → sets (atFront front all) (length front) words ≡ atFront (front ++ words) all
-front-more front words all h =
-    sets-eq words (atFront front all) (length front) (omega (arith, length-append front (drop (length front) all), length-drop (length front) all))
-    ∙ ap₂ (λ a b. (a ++ words) ++ b) (take-append-seam front (drop (length front) all)) (drop-append-add front (drop (length front) all) (length words) ∙ drop-drop (length words) (length front) all)
-    ∙ ap (λ n. (front ++ words) ++ drop n all) (sym (length-append front words))
+-- more codes at the front
+pub front-more : (front codes all : List ℕ) → length front + length codes ≤ length all → sets (atFront front all) (length front) codes ≡ atFront (front ++ codes) all
+front-more front codes all h =
+    sets-eq codes (atFront front all) (length front) (omega (arith, length-append front (drop (length front) all), length-drop (length front) all))
+    ∙ ap₂ (λ a b. (a ++ codes) ++ b) (take-append-seam front (drop (length front) all)) (drop-append-add front (drop (length front) all) (length codes) ∙ drop-drop (length codes) (length front) all)
+    ∙ ap (λ n. (front ++ codes) ++ drop n all) (sym (length-append front codes))
 
 pub front-length : (front all : List ℕ) → length front ≤ length all → length (atFront front all) ≡ length all
 front-length front all h = omega (arith, length-append front (drop (length front) all), length-drop (length front) all)

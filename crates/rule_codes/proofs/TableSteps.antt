@@ -1,4 +1,4 @@
--- Tables of the variables' words, filled step by step.
+-- Tables of the variables' codes, filled step by step.
 use mathlib.Core.Path.{_≡_, refl, sym, ap, ap₂, _∙_, subst}
 use mathlib.Core.Bool.{Bool, true, false, cond}
 use mathlib.Core.Logic.{⊎-elim}
@@ -22,45 +22,45 @@ use Rattle.codes.specs.Code.{variableTag, constantTag, termCode}
 use Rattle.rule_codes.specs.Codes.{based, counted}
 use Rattle.rule_codes.specs.Laid.{UseOf, SomeUse}
 use Rattle.rule_codes.specs.Promises.{HeadCount}
-use Rattle.rule_codes.specs.Tables.{BaseTable, TermWord, OldWord, UseTable}
+use Rattle.rule_codes.specs.Tables.{BaseTable, TermCode, OldCode, UseTable}
 use Rattle.rule_codes.proofs.Stores.{after-store}
 use Rattle.rule_codes.proofs.TermSteps.{mapped}
 
 -- counting from a base on
 module _ (base : ℕ) where
   pub base-starts : (table : List ℕ) → length table ≡ 32 → BaseTable base 0 table
-  base-starts table h = record { long = h; word = λ x l. absurd (omega arith) }
+  base-starts table h = record { long = h; code = λ x l. absurd (omega arith) }
 
   pub base-goes : (x : ℕ) (table : List ℕ) → x < 32 → BaseTable base x table → BaseTable base (x + 1) (set table x (base + x))
-  base-goes x table h b = record { long = length-set table x (base + x) ∙ b .long; word = λ y l. after-store table x (base + x) y (let n = b .long in omega arith) ∙ go y l (eqb x y) refl }
+  base-goes x table h b = record { long = length-set table x (base + x) ∙ b .long; code = λ y l. after-store table x (base + x) y (let n = b .long in omega arith) ∙ go y l (eqb x y) refl }
     where
       go : (y : ℕ) → y < x + 1 → (t : Bool) → eqb x y ≡ t → cond t (base + x) (getD table y 0) ≡ base + y
       go y l true e = ap (λ z. base + z) (eqb-true x y e)
-      go y l false e = b .word y (⊎-elim (λ q. absurd (eqb-false x y e (sym q))) (λ less. less) (eq-or-lt-of-le (let h : y ≤ x = omega arith in h)))
+      go y l false e = b .code y (⊎-elim (λ q. absurd (eqb-false x y e (sym q))) (λ less. less) (eq-or-lt-of-le (let h : y ≤ x = omega arith in h)))
 
   pub base-ends : (x : ℕ) (table : List ℕ) → 32 ≤ x → BaseTable base x table → BaseTable base 32 table
-  base-ends x table h b = record { long = b .long; word = λ y l. b .word y (omega arith) }
+  base-ends x table h b = record { long = b .long; code = λ y l. b .code y (omega arith) }
 
--- a term's word from one base to another
-module _ (olds word : ℕ) where
-  pub old-variable : word < constantTag → OldWord olds word (word - variableTag + olds)
+-- a term's code from one base to another
+module _ (olds code : ℕ) where
+  pub old-variable : code < constantTag → OldCode olds code (code - variableTag + olds)
   old-variable h = record { is = is }
     where
-      is : (t : Term ℕ) → TermWithin t → word ≡ termCode t → word - variableTag + olds ≡ based olds t
+      is : (t : Term ℕ) → TermWithin t → code ≡ termCode t → code - variableTag + olds ≡ based olds t
       is (var x) w e = omega arith
       is (con c) w e = absurd (omega arith)
 
-  pub old-constant : constantTag ≤ word → OldWord olds word word
+  pub old-constant : constantTag ≤ code → OldCode olds code code
   old-constant h = record { is = is }
     where
-      is : (t : Term ℕ) → TermWithin t → word ≡ termCode t → word ≡ based olds t
+      is : (t : Term ℕ) → TermWithin t → code ≡ termCode t → code ≡ based olds t
       is (var x) w e = absurd (omega arith)
       is (con c) w e = e
 
-  pub above-tag : TermWord word → variableTag ≤ word
+  pub above-tag : TermCode code → variableTag ≤ code
   above-tag w = go (w .term) (w .is)
     where
-      go : (t : Term ℕ) → word ≡ termCode t → variableTag ≤ word
+      go : (t : Term ℕ) → code ≡ termCode t → variableTag ≤ code
       go (var x) e = omega arith
       go (con c) e = omega arith
 
@@ -79,12 +79,12 @@ pub record UseAt (bytes row : List ℕ) (v : Rule ℕ) (ts : List (Term ℕ)) (i
   pub term : Term ℕ
   pub given : place ts (suc i) ≡ some term
   pub within : TermWithin term
-  pub word : getD row i 0 ≡ termCode term
+  pub code : getD row i 0 ≡ termCode term
   pub room : i < length row
 
 module _ {arities bytes row : List ℕ} {v : Rule ℕ} {ts : List (Term ℕ)} (u : UseOf arities bytes row v ts) where
   row-long : length ts ≤ length row
-  row-long = omega (arith, ap length (u .words), length-take (length ts) row, length-map ts termCode, min-le-right (length ts) (length row))
+  row-long = omega (arith, ap length (u .codes), length-take (length ts) row, length-map ts termCode, min-le-right (length ts) (length row))
 
   pub use-at : (i : ℕ) → i < length (v .head) → UseAt bytes row v ts i
   use-at i h = record {
@@ -94,7 +94,7 @@ module _ {arities bytes row : List ℕ} {v : Rule ℕ} {ts : List (Term ℕ)} (u
     term = t .0;
     given = t .1;
     within = u .within (t .0) (place-in ts (suc i) (t .0) (t .1));
-    word = sym (getD-take (length ts) row i 0 (let l = u .long in omega arith)) ∙ ap (λ l. getD l i 0) (u .words) ∙ mapped termCode ts i 0 (t .0) (t .1);
+    code = sym (getD-take (length ts) row i 0 (let l = u .long in omega arith)) ∙ ap (λ l. getD l i 0) (u .codes) ∙ mapped termCode ts i 0 (t .0) (t .1);
     room = let l = u .long in let m = row-long in omega arith;
   }
     where
@@ -115,20 +115,20 @@ module _ (bytes row : List ℕ) (olds base : ℕ) where
   pub record TableFrom (i : ℕ) (table : List ℕ) : Type 0 where
     pub long : length table ≡ 32
     pub within : (arities : List ℕ) (v : Rule ℕ) (ts : List (Term ℕ)) → UseOf arities bytes row v ts → i ≤ length (v .head)
-    pub word : (arities : List ℕ) (v : Rule ℕ) (ts : List (Term ℕ)) → UseOf arities bytes row v ts → (x : ℕ) → x < 32
+    pub code : (arities : List ℕ) (v : Rule ℕ) (ts : List (Term ℕ)) → UseOf arities bytes row v ts → (x : ℕ) → x < 32
         → getD table x 0 ≡ replaced (drop i (v .head)) (map (based olds) (drop i ts)) (counted base) x
 
   pub from-starts : (n : ℕ) (table : List ℕ) → HeadCount bytes n → BaseTable base 32 table → TableFrom n table
   from-starts n table h b = record {
     long = b .long;
     within = λ a v ts u. let same = h .is a (u .most) v (u .layout) in omega arith;
-    word = λ a v ts u x l. b .word x l ∙ ap (λ hs. replaced hs (map (based olds) (drop n ts)) (counted base) x) (sym (drop-of-length-le (v .head) {i = n} (let same = h .is a (u .most) v (u .layout) in omega arith)));
+    code = λ a v ts u x l. b .code x l ∙ ap (λ hs. replaced hs (map (based olds) (drop n ts)) (counted base) x) (sym (drop-of-length-le (v .head) {i = n} (let same = h .is a (u .most) v (u .layout) in omega arith)));
   }
 
   pub from-ends : (i : ℕ) (table : List ℕ) → i ≤ 0 → TableFrom i table → UseTable bytes row olds base table
-  from-ends i table h f = let e : i ≡ 0 = omega arith in record { word = subst (λ k. TableFrom k table) e f .word }
+  from-ends i table h f = let e : i ≡ 0 = omega arith in record { code = subst (λ k. TableFrom k table) e f .code }
 
-  module _ (i : ℕ) (table : List ℕ) (f : TableFrom (suc i) table) (y w : ℕ) (e : y ≡ numberAt 4 bytes (3 + 5 * i)) (o : OldWord olds (getD row i 0) w) where
+  module _ (i : ℕ) (table : List ℕ) (f : TableFrom (suc i) table) (y w : ℕ) (e : y ≡ numberAt 4 bytes (3 + 5 * i)) (o : OldCode olds (getD row i 0) w) where
     module _ {arities : List ℕ} {v : Rule ℕ} {ts : List (Term ℕ)} (u : UseOf arities bytes row v ts) where
       here : UseAt bytes row v ts i
       here = use-at u i (f .within arities v ts u)
@@ -142,12 +142,12 @@ module _ (bytes row : List ℕ) (olds base : ℕ) where
       step : (x : ℕ) → x < 32 → getD (set table y w) x 0 ≡ replaced (drop i (v .head)) (map (based olds) (drop i ts)) (counted base) x
       step x l =
           after-store table y w x (let s = small in let n = f .long in omega arith)
-          ∙ ap₂ (λ z k. cond (eqb z x) k (getD table x 0)) variable (o .is (here .term) (here .within) (here .word))
-          ∙ ap (cond (eqb (here .x) x) (based olds (here .term))) (f .word arities v ts u x l)
+          ∙ ap₂ (λ z k. cond (eqb z x) k (getD table x 0)) variable (o .is (here .term) (here .within) (here .code))
+          ∙ ap (cond (eqb (here .x) x) (based olds (here .term))) (f .code arities v ts u x l)
           ∙ sym (ap₂ (λ hs l. replaced hs (map (based olds) l) (counted base) x) (place-drop (v .head) i (var (here .x)) (here .shown)) (place-drop ts i (here .term) (here .given)))
 
     pub from-goes : TableFrom i (set table y w)
-    from-goes = record { long = length-set table y w ∙ f .long; within = λ a v ts u. let h = f .within a v ts u in omega arith; word = λ a v ts u. step u }
+    from-goes = record { long = length-set table y w ∙ f .long; within = λ a v ts u. let h = f .within a v ts u in omega arith; code = λ a v ts u. step u }
 
   -- the places from the last one down
   module _ (i : ℕ) (turn : 0 < i) (table : List ℕ) (f : TableFrom i table) where
@@ -157,8 +157,8 @@ module _ (bytes row : List ℕ) (olds base : ℕ) where
     pub place-down : (s : SomeUse bytes row) → UseAt bytes row (s .rule) (s .terms) (i - 1)
     place-down s = use-at (s .is) (i - 1) (below .within (s .arities) (s .rule) (s .terms) (s .is))
 
-    pub variable-down : SomeUse bytes row → (y w : ℕ) → y ≡ numberAt 4 bytes (3 + 5 * (i - 1)) → OldWord olds (getD row (i - 1) 0) w → y < 32
+    pub variable-down : SomeUse bytes row → (y w : ℕ) → y ≡ numberAt 4 bytes (3 + 5 * (i - 1)) → OldCode olds (getD row (i - 1) 0) w → y < 32
     variable-down s y w e o = small (i - 1) table below y w e o (s .is)
 
-    pub table-down : (y w : ℕ) → y ≡ numberAt 4 bytes (3 + 5 * (i - 1)) → OldWord olds (getD row (i - 1) 0) w → TableFrom (i - 1) (set table y w)
+    pub table-down : (y w : ℕ) → y ≡ numberAt 4 bytes (3 + 5 * (i - 1)) → OldCode olds (getD row (i - 1) 0) w → TableFrom (i - 1) (set table y w)
     table-down y w e o = from-goes (i - 1) table below y w e o

@@ -1,4 +1,4 @@
--- The words of terms where they stand, one law for each return of the code.
+-- The codes of terms where they stand, one law for each return of the code.
 use mathlib.Core.Path.{_≡_, sym, ap, _∙_}
 use mathlib.Core.Option.{some}
 use mathlib.Core.List.{List, [], _∷_, map}
@@ -12,17 +12,17 @@ use Rattle.spec.proofs.Bytes.Standing.{TermAt}
 use Rattle.spec.proofs.Lists.Places.{nothing, place-some}
 use Rattle.codes.specs.Code.{constantTag}
 use Rattle.rule_codes.specs.Codes.{tabled}
-use Rattle.rule_codes.specs.Steps.{SomeTerm, SomeTerms, Many, WordAt, PaddedAt}
+use Rattle.rule_codes.specs.Steps.{SomeTerm, SomeTerms, Many, CodeAt, PaddedAt}
 
 module _ (bytes : List ℕ) (at n : ℕ) (e : n ≡ numberAt 4 bytes (at + 1)) where
-  pub constant : (table : List ℕ) → getD bytes at 0 ≡ 1 → WordAt bytes at table (constantTag + n)
+  pub constant : (table : List ℕ) → getD bytes at 0 ≡ 1 → CodeAt bytes at table (constantTag + n)
   constant table tag = record { is = is }
     where
       is : (t : Term ℕ) → TermAt bytes at t → constantTag + n ≡ tabled table t
       is (var x) w = let z = w .tag in absurd (omega arith)
       is (con c) w = ap (λ m. constantTag + m) (e ∙ w .number)
 
-  pub variable : (table : List ℕ) → (getD bytes at 0 ≡ 1 → ⊥) → WordAt bytes at table (getD table n 0)
+  pub variable : (table : List ℕ) → (getD bytes at 0 ≡ 1 → ⊥) → CodeAt bytes at table (getD table n 0)
   variable table tag = record { is = is }
     where
       is : (t : Term ℕ) → TermAt bytes at t → getD table n 0 ≡ tabled table t
@@ -46,8 +46,8 @@ module _ (bytes : List ℕ) (at many k : ℕ) where
       let t = place-some (s .terms) k (omega arith) in
       record { term = t .0; here = s .here .here .term k (t .0) (t .1) }
 
-  pub word-there : (table : List ℕ) (w : ℕ) → k < many → WordAt bytes (at + 5 * k) table w → PaddedAt bytes at many k table w
-  word-there table w h e = record { is = is }
+  pub code-there : (table : List ℕ) (w : ℕ) → k < many → CodeAt bytes (at + 5 * k) table w → PaddedAt bytes at many k table w
+  code-there table w h e = record { is = is }
     where
       is : (ts : List (Term ℕ)) → Many bytes at many ts → w ≡ getD (map (tabled table) ts) k 1
       is ts m =

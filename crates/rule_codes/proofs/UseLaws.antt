@@ -1,4 +1,4 @@
--- The words of one use of a summary: by its table, and by each code of crate coding.
+-- The codes of one use of a summary: by its table, and by each code of crate coding.
 use mathlib.Core.Path.{_≡_, refl, sym, ap, ap₂, _∙_}
 use mathlib.Core.Bool.{Bool, true, false, cond}
 use mathlib.Core.Option.{some}
@@ -10,13 +10,13 @@ use Rattle.spec.specs.Words.{_∈_, Term, var, con, Subgoal, Rule, becomes}
 use Rattle.spec.specs.Summaries.{Summaries, summary, orEmpty, definition, Own, fresh, replaced, kept, inUse, inPlace}
 use Rattle.spec.proofs.Lists.Gathered.{map-same}
 use Rattle.spec.specs.RuleLayout.{TermWithin}
-use Rattle.codes.specs.Code.{variableTag, freshTag, ownCode, ownSlot, keptSlot, wordsOf, widthsOf}
+use Rattle.codes.specs.Code.{variableTag, freshTag, ownCode, ownSlot, keptSlot, codesOf, widthsOf}
 use Rattle.rule_codes.specs.Codes.{tabled, based, counted, basedUse, atFront}
 use Rattle.rule_codes.specs.Laid.{UseOf}
-use Rattle.rule_codes.specs.Promises.{BodyWords}
-use Rattle.rule_codes.specs.Uses.{UseWords}
+use Rattle.rule_codes.specs.Promises.{BodyCodes}
+use Rattle.rule_codes.specs.Uses.{UseCodes}
 use Rattle.rule_codes.specs.Tables.{UseTable}
-use Rattle.rule_codes.proofs.CodeLaws.{words-same, words-each, widths-each}
+use Rattle.rule_codes.proofs.CodeLaws.{codes-same, codes-each, widths-each}
 use Rattle.spec.proofs.Replaced.{replaced-all}
 
 -- what stands for a variable, coded
@@ -32,11 +32,11 @@ replaced-coded code (var y ∷ ss) (t ∷ ts) other x = picked (eqb y x) (replac
 replaced-coded code (con c ∷ ss) (t ∷ ts) other x = replaced-coded code ss ts other x
 
 module _ (s : Summaries) (u : ℕ) (g : Subgoal (Term ℕ)) (v : Rule ℕ) (e : summary s (g .relation) ≡ some v) where
-  -- the words of a use, over the summary's own terms
-  use-each : (code : Term (Own ℕ) → ℕ) → wordsOf code (inPlace s u g) ≡ wordsOf (λ t. code (becomes con (inUse s u g) t)) (v .body)
+  -- the codes of a use, over the summary's own terms
+  use-each : (code : Term (Own ℕ) → ℕ) → codesOf code (inPlace s u g) ≡ codesOf (λ t. code (becomes con (inUse s u g) t)) (v .body)
   use-each code =
-      words-each code (becomes con (inUse s u g)) (definition s (g .relation) .body)
-      ∙ ap (λ d. wordsOf (λ t. code (becomes con (inUse s u g) t)) (orEmpty d .body)) e
+      codes-each code (becomes con (inUse s u g)) (definition s (g .relation) .body)
+      ∙ ap (λ d. codesOf (λ t. code (becomes con (inUse s u g) t)) (orEmpty d .body)) e
 
   module _ (olds base : ℕ) where
     kept-based : (t : Term ℕ) → basedUse olds base (becomes con kept t) ≡ based olds t
@@ -48,18 +48,18 @@ module _ (s : Summaries) (u : ℕ) (g : Subgoal (Term ℕ)) (v : Rule ℕ) (e : 
         replaced-coded (basedUse olds base) (definition s (g .relation) .head) (map (becomes con kept) (g .terms)) (λ y. var (fresh u y)) x
         ∙ ap₂ (λ d l. replaced (orEmpty d .head) l (counted base) x) e (map-map (basedUse olds base) (becomes con kept) (g .terms) ∙ map-same (λ t. basedUse olds base (becomes con kept t)) (based olds) (g .terms) (λ t m. kept-based t))
 
-    use-tabled : {arities bytes row table : List ℕ} → UseOf arities bytes row v (g .terms) → UseTable bytes row olds base table → wordsOf (tabled table) (v .body) ≡ wordsOf (basedUse olds base) (inPlace s u g)
+    use-tabled : {arities bytes row table : List ℕ} → UseOf arities bytes row v (g .terms) → UseTable bytes row olds base table → codesOf (tabled table) (v .body) ≡ codesOf (basedUse olds base) (inPlace s u g)
     use-tabled {arities} {table = table} o w =
-        words-same (tabled table) (λ t. basedUse olds base (becomes con (inUse s u g) t)) (v .body) (λ k i t j. same t (o .layout .within .body k i t j)) ∙ sym (use-each (basedUse olds base))
+        codes-same (tabled table) (λ t. basedUse olds base (becomes con (inUse s u g) t)) (v .body) (λ k i t j. same t (o .layout .within .body k i t j)) ∙ sym (use-each (basedUse olds base))
       where
         same : (t : Term ℕ) → TermWithin t → tabled table t ≡ basedUse olds base (becomes con (inUse s u g) t)
-        same (var x) h = w .word arities v (g .terms) o x h ∙ sym (variable-based x)
+        same (var x) h = w .code arities v (g .terms) o x h ∙ sym (variable-based x)
         same (con c) h = refl
 
   -- codes that agree on the list's terms and on this use's own variables
-  use-same : (c d : Term (Own ℕ) → ℕ) → ((t : Term ℕ) → c (becomes con kept t) ≡ d (becomes con kept t)) → ((x : ℕ) → c (var (fresh u x)) ≡ d (var (fresh u x))) → wordsOf c (inPlace s u g) ≡ wordsOf d (inPlace s u g)
+  use-same : (c d : Term (Own ℕ) → ℕ) → ((t : Term ℕ) → c (becomes con kept t) ≡ d (becomes con kept t)) → ((x : ℕ) → c (var (fresh u x)) ≡ d (var (fresh u x))) → codesOf c (inPlace s u g) ≡ codesOf d (inPlace s u g)
   use-same c d olds own =
-      use-each c ∙ words-same (λ t. c (becomes con (inUse s u g) t)) (λ t. d (becomes con (inUse s u g) t)) (v .body) (λ k i t j. same t) ∙ sym (use-each d)
+      use-each c ∙ codes-same (λ t. c (becomes con (inUse s u g) t)) (λ t. d (becomes con (inUse s u g) t)) (v .body) (λ k i t j. same t) ∙ sym (use-each d)
     where
       among : (t : Term (Own ℕ)) → t ∈ map (becomes con kept) (g .terms) → c t ≡ d t
       among t m = let a = Memᴰ·of-map (becomes con kept) (g .terms) m in ap c (sym (a .2)) ∙ olds (a .0) ∙ ap d (a .2)
@@ -69,25 +69,25 @@ module _ (s : Summaries) (u : ℕ) (g : Subgoal (Term ℕ)) (v : Rule ℕ) (e : 
       same (con n) = olds (con n)
 
 module _ {arities bytes row before after : List ℕ} {n : ℕ} where
-  -- by the table of a use: the words of the use
-  pub use-words : {olds base : ℕ} {table : List ℕ} → UseTable bytes row olds base table → BodyWords arities bytes (tabled table) before after n → (u : ℕ) → UseWords arities bytes row (basedUse olds base) u before after n
-  use-words {olds} {base} t w u = record {
+  -- by the table of a use: the codes of the use
+  pub use-codes : {olds base : ℕ} {table : List ℕ} → UseTable bytes row olds base table → BodyCodes arities bytes (tabled table) before after n → (u : ℕ) → UseCodes arities bytes row (basedUse olds base) u before after n
+  use-codes {olds} {base} t w u = record {
     count = λ v ts o. w .count (o .most) v (o .layout);
-    words = λ v s g o e. w .words (o .most) v (o .layout) ∙ ap (λ ws. atFront ws before) (use-tabled s u g v e olds base o t);
+    codes = λ v s g o e. w .codes (o .most) v (o .layout) ∙ ap (λ ws. atFront ws before) (use-tabled s u g v e olds base o t);
   }
 
   recoded-use : (u : ℕ) (c d : Term (Own ℕ) → ℕ) → ((t : Term ℕ) → c (becomes con kept t) ≡ d (becomes con kept t)) → ((x : ℕ) → c (var (fresh u x)) ≡ d (var (fresh u x)))
-      → UseWords arities bytes row c u before after n → UseWords arities bytes row d u before after n
-  recoded-use u c d olds own w = record { count = w .count; words = λ v s g o e. w .words v s g o e ∙ ap (λ ws. atFront ws before) (use-same s u g v e c d olds own) }
+      → UseCodes arities bytes row c u before after n → UseCodes arities bytes row d u before after n
+  recoded-use u c d olds own w = record { count = w .count; codes = λ v s g o e. w .codes v s g o e ∙ ap (λ ws. atFront ws before) (use-same s u g v e c d olds own) }
 
   -- the three codes, each by its two bases
-  pub as-own : (u : ℕ) → UseWords arities bytes row (basedUse variableTag (freshTag + 32 * u)) u before after n → UseWords arities bytes row ownCode u before after n
+  pub as-own : (u : ℕ) → UseCodes arities bytes row (basedUse variableTag (freshTag + 32 * u)) u before after n → UseCodes arities bytes row ownCode u before after n
   as-own u = recoded-use u (basedUse variableTag (freshTag + 32 * u)) ownCode (elim [ var x ↦ refl | con c ↦ refl ]) (λ x. omega arith)
 
-  pub as-slots : (u : ℕ) → UseWords arities bytes row (basedUse 0 32) u before after n → UseWords arities bytes row ownSlot u before after n
+  pub as-slots : (u : ℕ) → UseCodes arities bytes row (basedUse 0 32) u before after n → UseCodes arities bytes row ownSlot u before after n
   as-slots u = recoded-use u (basedUse 0 32) ownSlot (elim [ var x ↦ omega arith | con c ↦ refl ]) (λ x. refl)
 
-  pub as-kept : (u : ℕ) → UseWords arities bytes row (basedUse variableTag 0) u before after n → UseWords arities bytes row keptSlot u before after n
+  pub as-kept : (u : ℕ) → UseCodes arities bytes row (basedUse variableTag 0) u before after n → UseCodes arities bytes row keptSlot u before after n
   as-kept u = recoded-use u (basedUse variableTag 0) keptSlot (elim [ var x ↦ refl | con c ↦ refl ]) (λ x. omega arith)
 
 -- a use has the widths of its summary's body

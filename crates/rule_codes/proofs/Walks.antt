@@ -19,14 +19,14 @@ pub laid : {arities bytes : List ℕ} {each area : ℕ} → LaidFor arities byte
 laid {arities} w = record { arities = arities; most = w .most; rule = w .rule; layout = w .layout }
 
 -- i subgoals are behind, and `at` is where the next one begins.
-pub record Ahead (arities bytes : List ℕ) (i at : ℕ) : Type 0 where
+pub record WalkedTo (arities bytes : List ℕ) (i at : ℕ) : Type 0 where
   pub is : (most : ℕ) (r : Rule ℕ) → Layout arities most bytes r → at ≡ goalStart r i
 
-pub walk-starts : {arities bytes : List ℕ} {n : ℕ} → HeadCount bytes n → Ahead arities bytes 0 (2 + 5 * n)
+pub walk-starts : {arities bytes : List ℕ} {n : ℕ} → HeadCount bytes n → WalkedTo arities bytes 0 (2 + 5 * n)
 walk-starts {arities} h = record { is = λ m r l. ap (λ k. 2 + 5 * k) (h .is arities m r l) ∙ sym (first-start l) }
 
 -- The next subgoal of a rule.
-pub record Next (arities bytes : List ℕ) (r : Rule ℕ) (i at arity : ℕ) : Type 0 where
+pub record NextSubgoal (arities bytes : List ℕ) (r : Rule ℕ) (i at arity : ℕ) : Type 0 where
   pub goal : Subgoal (Term ℕ)
   pub place : place (r .body) (suc i) ≡ some goal
   pub known : getD bytes at 0 < length arities
@@ -34,8 +34,8 @@ pub record Next (arities bytes : List ℕ) (r : Rule ℕ) (i at arity : ℕ) : T
   pub ends : at + (1 + 5 * arity) ≤ length bytes
   pub next : at + (1 + 5 * arity) ≡ goalStart r (suc i)
 
-module _ {arities bytes : List ℕ} {n i at : ℕ} (count : GoalCount bytes n) (turn : i < n) (ahead : Ahead arities bytes i at) where
-  pub next-goal : (arity most : ℕ) (r : Rule ℕ) → Layout arities most bytes r → arity ≡ getD arities (getD bytes at 0) 0 → Next arities bytes r i at arity
+module _ {arities bytes : List ℕ} {n i at : ℕ} (count : GoalCount bytes n) (turn : i < n) (ahead : WalkedTo arities bytes i at) where
+  pub next-goal : (arity most : ℕ) (r : Rule ℕ) → Layout arities most bytes r → arity ≡ getD arities (getD bytes at 0) 0 → NextSubgoal arities bytes r i at arity
   next-goal arity most r l e = record { goal = g; place = p; known = rw relation (fits .known); here = here; ends = ends; next = next }
     where
       there : (g : Subgoal (Term ℕ)) × (Rattle.spec.specs.Summaries.place (r .body) (suc i) ≡ some g)
@@ -71,5 +71,5 @@ module _ {arities bytes : List ℕ} {n i at : ℕ} (count : GoalCount bytes n) (
       here : GoalAt bytes at arity g
       here = record { room = omega (arith, ends); relation = relation; terms = record { long = long; here = terms } }
 
-  pub walk-goes : (arity : ℕ) → arity ≡ getD arities (getD bytes at 0) 0 → Ahead arities bytes (i + 1) (at + (1 + 5 * arity))
+  pub walk-goes : (arity : ℕ) → arity ≡ getD arities (getD bytes at 0) 0 → WalkedTo arities bytes (i + 1) (at + (1 + 5 * arity))
   walk-goes arity e = record { is = λ m r l. let one : i + 1 ≡ suc i = omega arith in rw one (next-goal arity m r l e .next) }

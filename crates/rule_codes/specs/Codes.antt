@@ -1,4 +1,4 @@
--- The words of terms by what the variables' words are, so that one builder serves every code of crate coding; laws tie each to those.
+-- The codes of terms by what the variables' codes are, so that one builder serves every code of crate coding; laws tie each to those.
 use mathlib.Core.List.{List, _++_}
 use Prim.Native.Nat.{ℕ, _+_, _<_}
 use lib.ListN.{length, getD, drop}
@@ -6,12 +6,12 @@ use Rattle.spec.specs.Words.{Term, var, con}
 use Rattle.spec.specs.Summaries.{Own, old, fresh}
 use Rattle.codes.specs.Code.{constantTag}
 
--- A table has the variables' words.
+-- A table has the variables' codes.
 abbrev pub tabled : List ℕ → Term ℕ → ℕ
 tabled table (var x) = getD table x 0
 tabled table (con c) = constantTag + c
 
--- A base that variables' numbers count from: the sums fit a word.
+-- A base that variables' numbers count from: the sums fit a code.
 abbrev pub Base : ℕ → Type 0
 Base base = base < 9223372036854775808
 
@@ -30,6 +30,6 @@ basedUse olds base (var (old x)) = olds + x
 basedUse olds base (var (fresh u x)) = base + x
 basedUse olds base (con c) = constantTag + c
 
--- Words at the front of an area; past them stays what was there.
+-- Codes at the front of an area; past them stays what was there.
 abbrev pub atFront : List ℕ → List ℕ → List ℕ
-atFront words before = words ++ drop (length words) before
+atFront codes before = codes ++ drop (length codes) before

@@ -8,10 +8,10 @@ use Rattle.spec.specs.RuleLayout.{Layout}
 use Rattle.codes.specs.Code.{termCode, padded}
 
 module _ (bytes : List ℕ) where
-  pub record HeadWords (words : List ℕ) : Type 0 where
-    pub is : (arities : List ℕ) (most : ℕ) (r : Rule ℕ) → Layout arities most bytes r → words ≡ padded 8 (map termCode (r .head))
+  pub record HeadCodes (codes : List ℕ) : Type 0 where
+    pub is : (arities : List ℕ) (most : ℕ) (r : Rule ℕ) → Layout arities most bytes r → codes ≡ padded 8 (map termCode (r .head))
 
-  -- a head variable is bound to its own word, any other slot to none
+  -- a head variable is bound to its own code, any other slot to none
   pub record HeadBindings (bound : List ℕ) : Type 0 where
     pub shown : (arities : List ℕ) (most : ℕ) (r : Rule ℕ) → Layout arities most bytes r → (x : ℕ) → var x ∈ r .head → getD bound x 0 ≡ termCode (var x)
     pub other : (arities : List ℕ) (most : ℕ) (r : Rule ℕ) → Layout arities most bytes r → (x : ℕ) → (var x ∈ r .head → ⊥) → getD bound x 0 ≡ 0

@@ -15,7 +15,7 @@ pub record Laid (bytes : List ℕ) : Type 0 where
   pub rule : Rule ℕ
   pub layout : Layout arities most bytes rule
 
--- A rule over these relations, and room in an area for so many words a subgoal.
+-- A rule over these relations, and room in an area for so many codes a subgoal.
 pub record LaidFor (arities bytes : List ℕ) (each area : ℕ) : Type 0 where
   pub most : ℕ
   pub rule : Rule ℕ
@@ -28,14 +28,14 @@ pub record QuestionLaid (arities bytes : List ℕ) : Type 0 where
   pub rule : Rule ℕ
   pub layout : Layout arities questionMost bytes rule
 
--- A use of a summary: the bytes are the summary's, and the row has the words of as many terms as its head.
+-- A use of a summary: the bytes are the summary's, and the row has the codes of as many terms as its head.
 pub record UseOf (arities bytes row : List ℕ) (v : Rule ℕ) (ts : List (Term ℕ)) : Type 0 where
   pub most : ℕ
   pub layout : Layout arities most bytes v
   pub plain : DistinctVariables (v .head)
   pub long : length ts ≡ length (v .head)
   pub within : TermsWithin ts
-  pub words : take (length ts) row ≡ map termCode ts
+  pub codes : take (length ts) row ≡ map termCode ts
 
 -- Some use, over some relations.
 pub record SomeUse (bytes row : List ℕ) : Type 0 where
@@ -44,7 +44,7 @@ pub record SomeUse (bytes row : List ℕ) : Type 0 where
   pub terms : List (Term ℕ)
   pub is : UseOf arities bytes row rule terms
 
--- Some use over these relations, and room in an area for its nine words a subgoal.
+-- Some use over these relations, and room in an area for its nine codes a subgoal.
 pub record UseFor (arities bytes row : List ℕ) (area : ℕ) : Type 0 where
   pub rule : Rule ℕ
   pub terms : List (Term ℕ)

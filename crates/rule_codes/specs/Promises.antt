@@ -5,7 +5,7 @@ use Prim.Native.Nat.{ℕ}
 use lib.ListN.{length}
 use Rattle.spec.specs.Words.{Term, Rule}
 use Rattle.spec.specs.RuleLayout.{Layout}
-use Rattle.codes.specs.Code.{wordsOf, widthsOf}
+use Rattle.codes.specs.Code.{codesOf, widthsOf}
 use Rattle.rule_codes.specs.Codes.{atFront}
 
 module _ (bytes : List ℕ) where
@@ -16,10 +16,10 @@ module _ (bytes : List ℕ) where
     pub is : (arities : List ℕ) (most : ℕ) (r : Rule ℕ) → Layout arities most bytes r → n ≡ length (r .body)
 
 module _ (arities bytes : List ℕ) where
-  -- the body's words at the front of an area
-  pub record BodyWords (code : Term ℕ → ℕ) (before after : List ℕ) (n : ℕ) : Type 0 where
+  -- the body's codes at the front of an area
+  pub record BodyCodes (code : Term ℕ → ℕ) (before after : List ℕ) (n : ℕ) : Type 0 where
     pub count : (most : ℕ) (r : Rule ℕ) → Layout arities most bytes r → n ≡ length (r .body)
-    pub words : (most : ℕ) (r : Rule ℕ) → Layout arities most bytes r → after ≡ atFront (wordsOf code (r .body)) before
+    pub codes : (most : ℕ) (r : Rule ℕ) → Layout arities most bytes r → after ≡ atFront (codesOf code (r .body)) before
 
   -- how many terms each subgoal has, at the front of an area
   pub record BodyWidths (before after : List ℕ) (n : ℕ) : Type 0 where

@@ -6,7 +6,7 @@ use lib.ListN.{length, getD}
 use lib.Seq.{sets}
 use Rattle.spec.specs.Words.{Term, Subgoal}
 use Rattle.spec.proofs.Bytes.Standing.{TermAt, TermsAt}
-use Rattle.codes.specs.Code.{subgoalWords}
+use Rattle.codes.specs.Code.{subgoalCodes}
 use Rattle.rule_codes.specs.Codes.{tabled}
 
 -- Some term stands there.
@@ -34,14 +34,14 @@ pub record SomeGoal (bytes : List ℕ) (at arity : ℕ) : Type 0 where
   pub here : GoalAt bytes at arity goal
 
 module _ (bytes : List ℕ) (at : ℕ) where
-  -- the word of the term there
-  pub record WordAt (table : List ℕ) (word : ℕ) : Type 0 where
-    pub is : (t : Term ℕ) → TermAt bytes at t → word ≡ tabled table t
+  -- the code of the term there
+  pub record CodeAt (table : List ℕ) (code : ℕ) : Type 0 where
+    pub is : (t : Term ℕ) → TermAt bytes at t → code ≡ tabled table t
 
-  -- word k of the terms there, 1 where they have ended
-  pub record PaddedAt (many k : ℕ) (table : List ℕ) (word : ℕ) : Type 0 where
-    pub is : (ts : List (Term ℕ)) → Many bytes at many ts → word ≡ getD (map (tabled table) ts) k 1
+  -- code k of the terms there, 1 where they have ended
+  pub record PaddedAt (many k : ℕ) (table : List ℕ) (code : ℕ) : Type 0 where
+    pub is : (ts : List (Term ℕ)) → Many bytes at many ts → code ≡ getD (map (tabled table) ts) k 1
 
-  -- the area with the nine words of the subgoal there, from `to` on
+  -- the area with the nine codes of the subgoal there, from `to` on
   pub record NineAt (arity to : ℕ) (table before after : List ℕ) : Type 0 where
-    pub is : (g : Subgoal (Term ℕ)) → GoalAt bytes at arity g → after ≡ sets before to (subgoalWords (tabled table) g)
+    pub is : (g : Subgoal (Term ℕ)) → GoalAt bytes at arity g → after ≡ sets before to (subgoalCodes (tabled table) g)

@@ -1,4 +1,4 @@
--- Tables of the variables' words.
+-- Tables of the variables' codes.
 use mathlib.Core.Path.{_≡_}
 use mathlib.Core.List.{List, map}
 use Prim.Native.Nat.{ℕ, _+_, _<_}
@@ -10,21 +10,21 @@ use Rattle.codes.specs.Code.{termCode}
 use Rattle.rule_codes.specs.Codes.{based, counted}
 use Rattle.rule_codes.specs.Laid.{UseOf}
 
--- The first so many variables' words count from the base on.
+-- The first so many variables' codes count from the base on.
 pub record BaseTable (base many : ℕ) (table : List ℕ) : Type 0 where
   pub long : length table ≡ 32
-  pub word : (x : ℕ) → x < many → getD table x 0 ≡ base + x
+  pub code : (x : ℕ) → x < many → getD table x 0 ≡ base + x
 
--- Some term has this word.
-pub record TermWord (word : ℕ) : Type 0 where
+-- Some term has this code.
+pub record TermCode (code : ℕ) : Type 0 where
   pub term : Term ℕ
   pub within : TermWithin term
-  pub is : word ≡ termCode term
+  pub is : code ≡ termCode term
 
--- The same term's word where variables count from a base.
-pub record OldWord (olds word result : ℕ) : Type 0 where
-  pub is : (t : Term ℕ) → TermWithin t → word ≡ termCode t → result ≡ based olds t
+-- The same term's code where variables count from a base.
+pub record OldCode (olds code result : ℕ) : Type 0 where
+  pub is : (t : Term ℕ) → TermWithin t → code ≡ termCode t → result ≡ based olds t
 
--- "its head variables replaced by the given terms and its other variables fresh": as words
+-- "its head variables replaced by the given terms and its other variables fresh": as codes
 pub record UseTable (bytes row : List ℕ) (olds base : ℕ) (table : List ℕ) : Type 0 where
-  pub word : (arities : List ℕ) (v : Rule ℕ) (ts : List (Term ℕ)) → UseOf arities bytes row v ts → (x : ℕ) → x < 32 → getD table x 0 ≡ replaced (v .head) (map (based olds) ts) (counted base) x
+  pub code : (arities : List ℕ) (v : Rule ℕ) (ts : List (Term ℕ)) → UseOf arities bytes row v ts → (x : ℕ) → x < 32 → getD table x 0 ≡ replaced (v .head) (map (based olds) ts) (counted base) x

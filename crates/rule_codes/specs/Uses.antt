@@ -1,4 +1,4 @@
--- What is promised of the words of one use of a summary.
+-- What is promised of the codes of one use of a summary.
 use mathlib.Core.Path.{_≡_}
 use mathlib.Core.Option.{some}
 use mathlib.Core.List.{List}
@@ -6,12 +6,12 @@ use Prim.Native.Nat.{ℕ}
 use lib.ListN.{length}
 use Rattle.spec.specs.Words.{Term, Subgoal, Rule}
 use Rattle.spec.specs.Summaries.{Summaries, summary, Own, inPlace}
-use Rattle.codes.specs.Code.{wordsOf}
+use Rattle.codes.specs.Code.{codesOf}
 use Rattle.rule_codes.specs.Codes.{atFront}
 use Rattle.rule_codes.specs.Laid.{UseOf}
 
--- The words of a summary's body in use u, in place of a subgoal, at the front of an area.
-pub record UseWords (arities bytes row : List ℕ) (code : Term (Own ℕ) → ℕ) (u : ℕ) (before after : List ℕ) (n : ℕ) : Type 0 where
+-- The codes of a summary's body in use u, in place of a subgoal, at the front of an area.
+pub record UseCodes (arities bytes row : List ℕ) (code : Term (Own ℕ) → ℕ) (u : ℕ) (before after : List ℕ) (n : ℕ) : Type 0 where
   pub count : (v : Rule ℕ) (ts : List (Term ℕ)) → UseOf arities bytes row v ts → n ≡ length (v .body)
-  pub words : (v : Rule ℕ) (s : Summaries) (g : Subgoal (Term ℕ)) → UseOf arities bytes row v (g .terms) → summary s (g .relation) ≡ some v
-      → after ≡ atFront (wordsOf code (inPlace s u g)) before
+  pub codes : (v : Rule ℕ) (s : Summaries) (g : Subgoal (Term ℕ)) → UseOf arities bytes row v (g .terms) → summary s (g .relation) ≡ some v
+      → after ≡ atFront (codesOf code (inPlace s u g)) before

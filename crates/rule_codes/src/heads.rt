@@ -1,5 +1,5 @@
-// A rule's head: its words, and the bindings that send each of its variables to itself.
-ghost use Rattle.rule_codes.specs.Heads.{HeadWords, HeadBindings};
+// A rule's head: its codes, and the bindings that send each of its variables to itself.
+ghost use Rattle.rule_codes.specs.Heads.{HeadCodes, HeadBindings};
 ghost use Rattle.rule_codes.specs.Laid.{Laid};
 use crate::places::head_count;
 use crate::places::padded_at;
@@ -9,23 +9,23 @@ use codes::SLOTS;
 use codes::VARIABLE;
 use spec::MOST_HEAD;
 
-// The words of the head's terms, and NONE where they have ended.
-pub fn head_words(body: &[u8]) -> [u64; MOST_HEAD]
+// The codes of the head's terms, and NONE where they have ended.
+pub fn head_codes(body: &[u8]) -> [u64; MOST_HEAD]
     requires { ⌜ Laid (now body) ⌝ }
-    ensures { λ r. ⌜ HeadWords (now (body .entry)) r ⌝ }
+    ensures { λ r. ⌜ HeadCodes (now (body .entry)) r ⌝ }
 {
     let heads = head_count(body);
     let table = base_table(VARIABLE);
-    let mut words = [NONE; MOST_HEAD];
+    let mut codes = [NONE; MOST_HEAD];
     let mut k: usize = 0;
     while k < MOST_HEAD {
-        words[k] = padded_at(body, 2, heads, k, &table);
+        codes[k] = padded_at(body, 2, heads, k, &table);
         k += 1;
     }
-    words
+    codes
 }
 
-// "head to head place by place": both witnesses begin with each head variable bound to its own word, and nothing else.
+// "head to head place by place": both witnesses begin with each head variable bound to its own code, and nothing else.
 pub fn head_bindings(body: &[u8]) -> [u64; SLOTS]
     requires { ⌜ Laid (now body) ⌝ }
     ensures { λ r. ⌜ HeadBindings (now (body .entry)) r ⌝ }

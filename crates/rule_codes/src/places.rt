@@ -3,7 +3,7 @@ ghost use mathlib.Core.Path.{_≡_};
 ghost use Prim.Native.Nat.{_<_};
 ghost use Rattle.rule_codes.specs.Laid.{Laid};
 ghost use Rattle.rule_codes.specs.Promises.{HeadCount, GoalCount};
-ghost use Rattle.rule_codes.specs.Steps.{SomeTerm, SomeTerms, WordAt, PaddedAt};
+ghost use Rattle.rule_codes.specs.Steps.{SomeTerm, SomeTerms, CodeAt, PaddedAt};
 use codes::CONSTANT;
 use codes::NONE;
 use numbers::wide;
@@ -25,10 +25,10 @@ pub fn goal_count(body: &[u8]) -> usize
     wide(body[1])
 }
 
-// The word of the term at `at`; the table has the variables' words.
-pub fn word_at(body: &[u8], at: usize, table: &[u64; VARIABLES]) -> u64
+// The code of the term at `at`; the table has the variables' codes.
+pub fn code_at(body: &[u8], at: usize, table: &[u64; VARIABLES]) -> u64
     requires { ⌜ SomeTerm (now body) at ⌝ }
-    ensures { λ r. ⌜ WordAt (now (body .entry)) at (now (table .entry)) r ⌝ }
+    ensures { λ r. ⌜ CodeAt (now (body .entry)) at (now (table .entry)) r ⌝ }
 {
     let n = numbers::u32_at(body, at + 1);
     if body[at] == 1 {
@@ -37,13 +37,13 @@ pub fn word_at(body: &[u8], at: usize, table: &[u64; VARIABLES]) -> u64
     table[n as usize]
 }
 
-// Word k of the terms from `at` on.
+// Code k of the terms from `at` on.
 pub fn padded_at(body: &[u8], at: usize, many: usize, k: usize, table: &[u64; VARIABLES]) -> u64
     requires { ⌜ SomeTerms (now body) at many ⌝ }
     ensures { λ r. ⌜ PaddedAt (now (body .entry)) at many k (now (table .entry)) r ⌝ }
 {
     if k < many {
-        return word_at(body, at + 5 * k, table);
+        return code_at(body, at + 5 * k, table);
     }
     NONE
 }

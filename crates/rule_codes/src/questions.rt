@@ -10,13 +10,13 @@ use codes::QUESTION_CODES;
 use codes::SUBGOAL_CODES;
 use codes::VARIABLE;
 
-// The terms of a question's body, as words, ascending and each once, at the front of `out`. (A summary's row has no other terms.) Returns how many there are.
+// The terms of a question's body, as codes, ascending and each once, at the front of `out`. (A summary's row has no other terms.) Returns how many there are.
 pub fn body_terms(body: &[u8], relations: &[u8], out: &mut [u64]) -> usize
     requires { ⌜ QuestionLaid (now relations) (now body) × (108 ≤ length (now out)) ⌝ }
     ensures { λ r. ⌜ BodyTerms (now (relations .entry)) (now (body .entry)) (now (out .entry)) (now (out .exit)) r ⌝ }
 {
     let table = base_table(VARIABLE);
-    let mut words = [0u64; QUESTION_CODES];
-    let used = SUBGOAL_CODES * put_subgoals(body, relations, &table, &mut words);
-    ascending(&words[..used], out)
+    let mut codes = [0u64; QUESTION_CODES];
+    let used = SUBGOAL_CODES * put_subgoals(body, relations, &table, &mut codes);
+    ascending(&codes[..used], out)
 }

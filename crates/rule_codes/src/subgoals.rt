@@ -1,10 +1,10 @@
-// A body's subgoals as words, nine each, and as widths.
+// A body's subgoals as codes, nine each, and as widths.
 ghost use mathlib.Core.Path.{_≡_};
 ghost use Prim.Native.Nat.{_+_, _<_, _≤_};
 ghost use lib.ListN.{length, getD};
 ghost use Rattle.rule_codes.specs.Codes.{tabled};
 ghost use Rattle.rule_codes.specs.Laid.{LaidFor};
-ghost use Rattle.rule_codes.specs.Promises.{BodyWords, BodyWidths};
+ghost use Rattle.rule_codes.specs.Promises.{BodyCodes, BodyWidths};
 ghost use Rattle.rule_codes.specs.Steps.{SomeGoal, NineAt};
 use crate::places::goal_count;
 use crate::places::head_count;
@@ -42,7 +42,7 @@ fn put_subgoal(
     }
 }
 
-// The words of every subgoal at the front of `out`; the table has the variables' words. Returns how many subgoals there are.
+// The codes of every subgoal at the front of `out`; the table has the variables' codes. Returns how many subgoals there are.
 pub fn put_subgoals(
     body: &[u8],
     relations: &[u8],
@@ -50,7 +50,7 @@ pub fn put_subgoals(
     out: &mut [u64],
 ) -> usize
     requires { ⌜ LaidFor (now relations) (now body) 9 (length (now out)) ⌝ }
-    ensures { λ r. ⌜ BodyWords (now (relations .entry)) (now (body .entry)) (tabled (now (table .entry))) (now (out .entry)) (now (out .exit)) r ⌝ }
+    ensures { λ r. ⌜ BodyCodes (now (relations .entry)) (now (body .entry)) (tabled (now (table .entry))) (now (out .entry)) (now (out .exit)) r ⌝ }
 {
     let goals = goal_count(body);
     let mut at = 2 + 5 * head_count(body);

@@ -1,7 +1,7 @@
-// Tables of the words of a rule's variables, 0 to 31.
+// Tables of the codes of a rule's variables, 0 to 31.
 ghost use Rattle.rule_codes.specs.Codes.{Base};
 ghost use Rattle.rule_codes.specs.Laid.{SomeUse};
-ghost use Rattle.rule_codes.specs.Tables.{BaseTable, TermWord, OldWord, UseTable};
+ghost use Rattle.rule_codes.specs.Tables.{BaseTable, TermCode, OldCode, UseTable};
 use crate::places::head_count;
 use codes::CONSTANT;
 use codes::VARIABLE;
@@ -21,18 +21,18 @@ pub fn base_table(base: u64) -> [u64; VARIABLES]
     table
 }
 
-// A term's word where variables count from another base.
-fn old_word(word: u64, olds: u64) -> u64
-    requires { ⌜ TermWord word × Base olds ⌝ }
-    ensures { λ r. ⌜ OldWord olds word r ⌝ }
+// A term's code where variables count from another base.
+fn old_code(code: u64, olds: u64) -> u64
+    requires { ⌜ TermCode code × Base olds ⌝ }
+    ensures { λ r. ⌜ OldCode olds code r ⌝ }
 {
-    if word < CONSTANT {
-        return word - VARIABLE + olds;
+    if code < CONSTANT {
+        return code - VARIABLE + olds;
     }
-    word
+    code
 }
 
-// The words of a summary's variables in one use: those of its head have the row's terms, the others count from the base on.
+// The codes of a summary's variables in one use: those of its head have the row's terms, the others count from the base on.
 pub fn use_table(body: &[u8], row: &[u64], olds: u64, base: u64) -> [u64; VARIABLES]
     requires { ⌜ SomeUse (now body) (now row) × Base olds × Base base ⌝ }
     ensures { λ r. ⌜ UseTable (now (body .entry)) (now (row .entry)) olds base r ⌝ }
@@ -42,7 +42,7 @@ pub fn use_table(body: &[u8], row: &[u64], olds: u64, base: u64) -> [u64; VARIAB
     while 0 < i {
         i -= 1;
         let x = numbers::u32_at(body, 3 + 5 * i) as usize;
-        table[x] = old_word(row[i], olds);
+        table[x] = old_code(row[i], olds);
     }
     table
 }

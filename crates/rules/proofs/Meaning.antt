@@ -40,14 +40,14 @@ marks-cases [] m x h = inl h
 marks-cases (t ∷ ts) m x h = ⊎-elim (λ a. ⊎-elim (λ b. inl b) (λ e. inr (List·Memᴰ·head e)) (mark-cases m t x a)) (λ i. inr (List·Memᴰ·tail i)) (marks-cases ts (mark m t) x h)
 
 -- subgoals: their variables
-abbrev Stands : ℕ → List (Subgoal (Term ℕ)) → Type 0
-Stands x gs = (g : Subgoal (Term ℕ)) × (g ∈ gs) × (var x ∈ g .terms)
+abbrev VariableIn : ℕ → List (Subgoal (Term ℕ)) → Type 0
+VariableIn x gs = (g : Subgoal (Term ℕ)) × (g ∈ gs) × (var x ∈ g .terms)
 
 goals-keep : (gs : List (Subgoal (Term ℕ))) (m : Marks) (x : ℕ) → Has (m .vars) x → Has (goalMarks m gs .vars) x
 goals-keep [] m x h = h
 goals-keep (g ∷ gs) m x h = goals-keep gs (ofGoal m g) x (marks-keep (g .terms) m x h)
 
-pub goals-note : (gs : List (Subgoal (Term ℕ))) (m : Marks) (x : ℕ) → Stands x gs → Has (goalMarks m gs .vars) x
+pub goals-note : (gs : List (Subgoal (Term ℕ))) (m : Marks) (x : ℕ) → VariableIn x gs → Has (goalMarks m gs .vars) x
 goals-note [] m x w = absurd (List·Memᴰ·not-nil (w .1))
 goals-note (g ∷ gs) m x w = by (w .1) (λ i. goals-note gs (ofGoal m g) x (w .0, i, w .2))
   where
@@ -55,7 +55,7 @@ goals-note (g ∷ gs) m x w = by (w .1) (λ i. goals-note gs (ofGoal m g) x (w .
     by (List·Memᴰ·head e) ih = goals-keep gs (ofGoal m g) x (marks-note (g .terms) m x (subst (λ z. var x ∈ z .terms) e (w .2)))
     by (List·Memᴰ·tail i) ih = ih i
 
-pub goals-cases : (gs : List (Subgoal (Term ℕ))) (m : Marks) (x : ℕ) → Has (goalMarks m gs .vars) x → Has (m .vars) x ⊎ Stands x gs
+pub goals-cases : (gs : List (Subgoal (Term ℕ))) (m : Marks) (x : ℕ) → Has (goalMarks m gs .vars) x → Has (m .vars) x ⊎ VariableIn x gs
 goals-cases [] m x h = inl h
 goals-cases (g ∷ gs) m x h =
     ⊎-elim

@@ -26,7 +26,7 @@ use Rattle.choice_theory.specs.Targets.{place-uses}
 use Rattle.codes.specs.Code.{termCode, ownSlot}
 use Rattle.task.specs.Task.{Task, Sized}
 use Rattle.task.specs.Mapped.{useOf, Mapped, FirstMapped}
-use Rattle.search_meaning.specs.Coded.{In, Ready, OverTerms, Sent}
+use Rattle.search_meaning.specs.Coded.{TermIn, Ready, OverTerms, Sent}
 use Rattle.search_meaning.specs.Codings.{ownNaming, ownNamed, homeOf, termCoding, readTerm, OwnWithin}
 use Rattle.search_meaning.specs.Uses.{useAt, endsOf}
 use Rattle.search_meaning.specs.HeadBound.{HeadBound}
@@ -114,7 +114,7 @@ module _ (arities : List ℕ) (s : Summaries) (q : Rule ℕ) (bounds : Bounds ar
       bound-read : (x : ℕ) → var x ∈ q .head → readTerm (getD b x 0) ≡ var x
       bound-read x m = ap readTerm (head .bound x m) ∙ read-term (var x) (low x m)
 
-      within : (t : Term (Own ℕ)) → In t (joined ls) → OwnWithin t
+      within : (t : Term (Own ℕ)) → TermIn t (joined ls) → OwnWithin t
       within = uses-within arities s q bounds l rows
 
       apart : (i : ℕ) (c : Subgoal (Term (Own ℕ))) → place (joined ls) (suc i) ≡ some c → (t : Term (Own ℕ)) → t ∈ c .terms → 32 ≤ ownSlot t → ownSlot t < 64 → homeOf t ≡ useOf p i
@@ -122,9 +122,9 @@ module _ (arities : List ℕ) (s : Summaries) (q : Rule ℕ) (bounds : Bounds ar
       apart i c e (var (fresh u x)) m h o = home-is i c e (var (fresh u x)) m .0 ∙ sym (use-of-is p ls all-some refl i (place-within (joined ls) (suc i) c e .1))
       apart i c e (con k) m h o = absurd (omega arith)
 
-      kept-word : (t : Term (Own ℕ)) → In t (joined ls) → 64 ≤ ownSlot t → termCode (readTerm (ownSlot t)) ≡ ownSlot t
-      kept-word (var x) i h = absurd (omega (arith, own-slots x (within (var x) i)))
-      kept-word (con k) i h = ap termCode (read-term (con k) (within (con k) i))
+      kept-code : (t : Term (Own ℕ)) → TermIn t (joined ls) → 64 ≤ ownSlot t → termCode (readTerm (ownSlot t)) ≡ ownSlot t
+      kept-code (var x) i h = absurd (omega (arith, own-slots x (within (var x) i)))
+      kept-code (con k) i h = ap termCode (read-term (con k) (within (con k) i))
 
       ready : Ready ownNaming termCoding (joined ls) (endsOf ls) (q .body) own b
       ready = record {
@@ -135,7 +135,7 @@ module _ (arities : List ℕ) (s : Summaries) (q : Rule ℕ) (bounds : Bounds ar
         named = λ t i h. named-own t (within t i) h;
         shared = λ u w x h. named-old u x h ∙ sym (named-old w x h);
         apart = apart;
-        kept = kept-word;
+        kept = kept-code;
         low = λ x o. low x (head .only x o);
         slot = λ x o. ap ownSlot (named-old 0 x (low x (head .only x o)));
         given = λ x o. ap termCode (bound-read x (head .only x o)) ∙ sym (head .bound x (head .only x o));

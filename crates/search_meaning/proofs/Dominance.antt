@@ -1,4 +1,4 @@
--- A row's use goes into another's, on words and over terms.
+-- A row's use goes into another's, on codes and over terms.
 use mathlib.Core.Path.{_≡_, refl, sym, ap, _∙_}
 use mathlib.Core.Logic.{_↔_}
 use mathlib.Core.List.{List, map, Memᴰ·cast, Memᴰ·map}
@@ -18,11 +18,11 @@ use Rattle.choice_theory.specs.Dominates.{Dominates}
 use Rattle.codes.specs.Code.{ownCode, keptSlot}
 use Rattle.task.specs.Task.{Task, Sized}
 use Rattle.task.specs.Mapped.{Mapped}
-use Rattle.search_meaning.specs.Coded.{Bound, In, Ready, Valued}
+use Rattle.search_meaning.specs.Coded.{Bound, TermIn, Ready, Valued}
 use Rattle.search_meaning.specs.Codings.{keptNaming, ownCoding, readOwn}
 use Rattle.outcomes.specs.Bounds.{Bounds, RowsWithin}
 use Rattle.search_meaning.specs.Tasks.{useTask}
-use Rattle.search_meaning.proofs.AtWords.{map-get}
+use Rattle.search_meaning.proofs.AtCodes.{map-get}
 use Rattle.search_meaning.proofs.AtPlaces.{Indexed, places-indexed, indexed-places}
 use Rattle.search_meaning.proofs.General.{mapped-is}
 use Rattle.search_meaning.proofs.Read.{read-own, own-solid}
@@ -30,7 +30,7 @@ use Rattle.search_meaning.proofs.Sizes.{sized}
 use Rattle.outcomes.proofs.Bounds.{fits-room, fits-alike}
 use Rattle.search_meaning.proofs.InUse.{OfUse, of-use-within, use-terms, use-few, uses-fit}
 
--- the slot of a use's own variable stands for it, and no other word is a slot
+-- the slot of a use's own variable stands for it, and no other code is a slot
 kept-named : (u : ℕ) (t : Term (Own ℕ)) → OfUse u t → keptSlot t < 64 → var (fresh u (keptSlot t)) ≡ t
 kept-named u (var (old x)) w h = absurd (omega arith)
 kept-named u (var (fresh v x)) w h = ap (λ z. var (fresh z x)) (sym (w .0))
@@ -73,7 +73,7 @@ module _ (arities : List ℕ) (s : Summaries) (q : Rule ℕ) (bounds : Bounds ar
     fits : AllFit arities (inPlace s u (rowAt rows u))
     fits c m = uses-fit arities s q bounds rows good c (in-use s 0 rows c record { by = u; of = rowAt rows u; at = getD-place nothing rows u h; inside = rw add-zero m })
 
-    terms-of : (t : Term (Own ℕ)) → In t (inPlace s u (rowAt rows u)) → OfUse u t
+    terms-of : (t : Term (Own ℕ)) → TermIn t (inPlace s u (rowAt rows u)) → OfUse u t
     terms-of t i = use-terms arities s q bounds rows good (rowAt rows u) row-in u (i .0) (i .1) t (i .2)
 
     few : length (inPlace s u (rowAt rows u)) ≤ 8
@@ -113,7 +113,7 @@ module _ (arities : List ℕ) (s : Summaries) (q : Rule ℕ) (bounds : Bounds ar
         value : ℕ → Term (Own ℕ)
         value x = m .value (var (fresh r x))
 
-        same : (t : Term (Own ℕ)) → In t src → OfUse r t → into value t ≡ m .value t
+        same : (t : Term (Own ℕ)) → TermIn t src → OfUse r t → into value t ≡ m .value t
         same (var (old x)) i w = sym (m .keeps (var (old x)) i (omega arith) ∙ kept-back r (var (old x)) w (omega arith))
         same (var (fresh v x)) i w = ap (λ z. m .value (var (fresh z x))) (sym (w .0))
         same (con k) i w = sym (m .keeps (con k) i (omega arith) ∙ kept-back r (con k) w (omega arith))
@@ -154,7 +154,7 @@ module _ (arities : List ℕ) (s : Summaries) (q : Rule ℕ) (bounds : Bounds ar
         ks : (ks : List ℕ) × (length ks ≡ length src) × ((i : ℕ) → i < length src → Goes i (getD ks i 0))
         ks = choices Goes (length src) goes
 
-        keeps : (t : Term (Own ℕ)) → In t src → OfUse r t → 64 ≤ keptSlot t → into (m .value) t ≡ readOwn (keptSlot t)
+        keeps : (t : Term (Own ℕ)) → TermIn t src → OfUse r t → 64 ≤ keptSlot t → into (m .value) t ≡ readOwn (keptSlot t)
         keeps (var (old x)) i w h = sym (kept-back r (var (old x)) w h)
         keeps (var (fresh v x)) i w h = absurd (omega (arith, w .1))
         keeps (con k) i w h = sym (kept-back r (con k) w h)

@@ -1,4 +1,4 @@
--- Whether some mapping lies within few rows, on words and over the uses of all rows.
+-- Whether some mapping lies within few rows, on codes and over the uses of all rows.
 use mathlib.Core.Path.{_≡_, sym, _∙_}
 use mathlib.Core.Logic.{_↔_}
 use mathlib.Core.List.{List, map, Memᴰ·map, Memᴰ·of-map}
@@ -11,14 +11,14 @@ use Rattle.spec.specs.Summaries.{Summaries, Own, uses, joined}
 use Rattle.choice_theory.specs.Numbered.{nothing, keptHead}
 use Rattle.choice_theory.specs.MapsAt.{MapsAt}
 use Rattle.choice_theory.specs.Can.{CanBy}
-use Rattle.choice_theory.specs.Placed.{Placed, rowOf, owners, AnyPair}
+use Rattle.choice_theory.specs.Placed.{PlacedInRows, rowOf, owners, AnyPair}
 use Rattle.choice_theory.specs.Placing.{placed-is}
 use Rattle.task.specs.Task.{Task, Sized}
 use Rattle.task.specs.Mapped.{InRows, Mapped, Feasible}
 use Rattle.search_meaning.specs.HeadBound.{HeadBound}
 use Rattle.outcomes.specs.Bounds.{Bounds, RowsWithin}
 use Rattle.search_meaning.specs.Tasks.{thereTask}
-use Rattle.search_meaning.proofs.AtWords.{map-get}
+use Rattle.search_meaning.proofs.AtCodes.{map-get}
 use Rattle.search_meaning.proofs.AtPlaces.{Indexed, places-indexed, indexed-places}
 use Rattle.search_meaning.proofs.Owners.{owners-long, owners-below}
 use Rattle.search_meaning.proofs.Into.{Into, into-is, there-sized}
@@ -69,7 +69,7 @@ module _ (arities : List ℕ) (s : Summaries) (q : Rule ℕ) (bounds : Bounds ar
     into-law = into-is arities s q bounds rows good lasts (owners 0 (uses s 0 rows)) b owned head
 
     module _ (used may left : ℕ) where
-      feasible-placed : Feasible p b used may left → Placed s q rows AnyPair (Has used) (Has may) left
+      feasible-placed : Feasible p b used may left → PlacedInRows s q rows AnyPair (Has used) (Has may) left
       feasible-placed f = record {
         ks = f .places;
         maps = into-maps s q rows (f .places) (into-law (f .places) .0 (f .mapped));
@@ -80,7 +80,7 @@ module _ (arities : List ℕ) (s : Summaries) (q : Rule ℕ) (bounds : Bounds ar
         each = f .within .each;
       }
 
-      placed-feasible : Placed s q rows AnyPair (Has used) (Has may) left → Feasible p b used may left
+      placed-feasible : PlacedInRows s q rows AnyPair (Has used) (Has may) left → Feasible p b used may left
       placed-feasible t = record {
         places = t .ks;
         mapped = into-law (t .ks) .1 (maps-into s q rows (t .ks) (t .maps));

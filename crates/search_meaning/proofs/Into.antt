@@ -15,7 +15,7 @@ use Rattle.choice_theory.specs.Placing.{keeps-head}
 use Rattle.codes.specs.Code.{ownCode}
 use Rattle.task.specs.Task.{Task, Sized}
 use Rattle.task.specs.Mapped.{Mapped}
-use Rattle.search_meaning.specs.Coded.{In, Sent}
+use Rattle.search_meaning.specs.Coded.{TermIn, Sent}
 use Rattle.search_meaning.specs.Codings.{slotNaming, ownCoding, readOwn, OwnWithin, RuleSource}
 use Rattle.search_meaning.specs.HeadBound.{HeadBound}
 use Rattle.outcomes.specs.Bounds.{Bounds, RowsWithin}
@@ -36,7 +36,7 @@ module _ (arities : List ℕ) (s : Summaries) (q : Rule ℕ) (bounds : Bounds ar
   abbrev tgt : List (Subgoal (Term (Own ℕ)))
   tgt = joined (uses s 0 l)
 
-  pub uses-within : (t : Term (Own ℕ)) → In t tgt → OwnWithin t
+  pub uses-within : (t : Term (Own ℕ)) → TermIn t tgt → OwnWithin t
   uses-within t i =
       let w = used s 0 l (i .0) (i .1) in
       of-use-within (w .by + 0) t (use-terms arities s q bounds l rows (w .of) (place-in l (suc (w .by)) (w .at)) (w .by + 0) (i .0) (w .inside) t (i .2))
@@ -63,7 +63,7 @@ module _ (arities : List ℕ) (s : Summaries) (q : Rule ℕ) (bounds : Bounds ar
       low : (x : ℕ) → var x ∈ q .head → x < 32
       low x m = bounds .question .head (var x) m
 
-      -- a head variable's word read back
+      -- a head variable's code read back
       bound-read : (x : ℕ) → var x ∈ q .head → readOwn (getD b x 0) ≡ var (old x)
       bound-read x m = ap readOwn (head .bound x m) ∙ read-own (var (old x)) (low x m)
 

@@ -1,5 +1,5 @@
+pub mod AtCodes
 pub mod AtPlaces
-pub mod AtWords
 pub mod Back
 pub mod Carried
 pub mod Dominance

@@ -8,11 +8,11 @@ use Rattle.spec.specs.Words.{Term, var, con, Subgoal, becomes, each}
 use Rattle.spec.specs.Answer.{AtPlaces}
 use Rattle.spec.proofs.Lists.Gathered.{map-same}
 use Rattle.task.specs.Mapped.{Mapped}
-use Rattle.search_meaning.specs.Coded.{Naming, Coding, In, task, Ready, Valued, Sent, OverTerms}
+use Rattle.search_meaning.specs.Coded.{Naming, Coding, TermIn, task, Ready, Valued, Sent, OverTerms}
 use Rattle.search_meaning.proofs.General.{mapped-is}
 
 -- values that are the same on the terms of the subgoals make the same of these
-pub each-same : {S D : Type 0} (f g : S → D) (src : List (Subgoal S)) → ((t : S) → In t src → f t ≡ g t) → map (each f) src ≡ map (each g) src
+pub each-same : {S D : Type 0} (f g : S → D) (src : List (Subgoal S)) → ((t : S) → TermIn t src → f t ≡ g t) → map (each f) src ≡ map (each g) src
 each-same f g src same = map-same (each f) (each g) src (λ h i j. record { relation = h .relation; terms = map-same f g (h .terms) (λ t m. same t (h, i, m)) j })
 
 module _ {X Y : Type 0} (n : Naming (Term X)) (c : Coding (Term Y)) (names : ℕ → X) (src : List (Subgoal (Term X))) (lasts : List ℕ) (tgt : List (Subgoal (Term Y))) (own b : List ℕ)
@@ -24,7 +24,7 @@ module _ {X Y : Type 0} (n : Naming (Term X)) (c : Coding (Term Y)) (names : ℕ
     extends = λ x o. ap (m .value) (sym (terms .named x o)) ∙ m .extends x o;
   }
     where
-      same : (t : Term X) → In t src → m .value t ≡ becomes con (λ x. m .value (var x)) t
+      same : (t : Term X) → TermIn t src → m .value t ≡ becomes con (λ x. m .value (var x)) t
       same (var x) i = refl
       same (con k) i = m .keeps (con k) i (terms .constants k i) ∙ terms .same k i
 
@@ -36,7 +36,7 @@ module _ {X Y : Type 0} (n : Naming (Term X)) (c : Coding (Term Y)) (names : ℕ
     extends = λ x o. ap (becomes con (m .value)) (terms .named x o) ∙ m .extends x o;
   }
     where
-      keeps : (t : Term X) → In t src → 64 ≤ n .word t → becomes con (m .value) t ≡ c .read (n .word t)
+      keeps : (t : Term X) → TermIn t src → 64 ≤ n .code t → becomes con (m .value) t ≡ c .read (n .code t)
       keeps (var x) i h = absurd (omega (arith, terms .slots x i))
       keeps (con k) i h = sym (terms .same k i)
 

@@ -1,4 +1,4 @@
--- A word read back is the term whose word it is, and no word is 0.
+-- A code read back is the term whose code it is, and no code is 0.
 use mathlib.Core.Path.{_≡_, ap, ap₂}
 use Prim.Native.Nat.{ℕ, _+_, _*_}
 use native.Mathlib.Omega.{arith}

@@ -8,9 +8,9 @@ use lib.ListN.{length, getD, length-map, List·getD-eq-default}
 use Rattle.spec.specs.Words.{_∈_, Subgoal}
 use Rattle.codes.specs.Code.{padded}
 use Rattle.task.specs.Task.{Task, Sized, widthOf, targetTerm}
-use Rattle.search_meaning.specs.Coded.{Naming, Coding, task, Small}
-use Rattle.codes.proofs.Padded.{words-length}
-use Rattle.search_meaning.proofs.AtWords.{nothing, words-get, width-at}
+use Rattle.search_meaning.specs.Coded.{Naming, Coding, task, SmallTask}
+use Rattle.codes.proofs.Padded.{codes-length}
+use Rattle.search_meaning.proofs.AtCodes.{nothing, codes-get, width-at}
 use Rattle.choice_theory.specs.Lists.{getD-in}
 
 padded-solid : (n : ℕ) (l : List ℕ) (a : ℕ) → a < n → ((x : ℕ) → x ∈ l → x ≡ 0 → ⊥) → getD (padded n l) a 0 ≡ 0 → ⊥
@@ -20,7 +20,7 @@ padded-solid (suc n) [] (suc a) h solid e = padded-solid n [] a (omega arith) so
 padded-solid (suc n) (x ∷ l) zero h solid e = solid x (List·Memᴰ·head refl) e
 padded-solid (suc n) (x ∷ l) (suc a) h solid e = padded-solid n l a (omega arith) (λ y m. solid y (List·Memᴰ·tail m)) e
 
-module _ {S D : Type 0} (n : Naming S) (c : Coding D) (src : List (Subgoal S)) (lasts : List ℕ) (tgt : List (Subgoal D)) (own : List ℕ) (small : Small c src lasts tgt own) where
+module _ {S D : Type 0} (n : Naming S) (c : Coding D) (src : List (Subgoal S)) (lasts : List ℕ) (tgt : List (Subgoal D)) (own : List ℕ) (small : SmallTask c src lasts tgt own) where
   abbrev p : Task
   p = task n c src lasts tgt own
 
@@ -40,15 +40,15 @@ module _ {S D : Type 0} (n : Naming S) (c : Coding D) (src : List (Subgoal S)) (
       let e : 9 * k + 1 + a ≡ 9 * k + suc a = omega arith in
       padded-solid 8 (map (c .code) (g .terms)) a m
       (λ x i q. let w = Memᴰ·of-map (c .code) (g .terms) i in small .solid (w .0) (g, getD-in nothing tgt k o, w .1) (w .2 ∙ q))
-      (sym (ap (λ j. getD (p .target) j 0) e ∙ words-get (c .code) tgt k (suc a) o (omega arith)) ∙ z)
+      (sym (ap (λ j. getD (p .target) j 0) e ∙ codes-get (c .code) tgt k (suc a) o (omega arith)) ∙ z)
 
   pub sized : Sized p
   sized = record {
     few = omega (arith, small .few, goals-are);
-    source = omega (arith, words-length (n .word) src, goals-are);
+    source = omega (arith, codes-length (n .code) src, goals-are);
     lasts = omega (arith, small .marked, goals-are);
     many = omega (arith, small .many, small .rows);
-    target = omega (arith, words-length (c .code) tgt, small .rows);
+    target = omega (arith, codes-length (c .code) tgt, small .rows);
     widths = widths;
     rows = small .sets;
     solid = solid;

@@ -10,12 +10,12 @@ use Rattle.spec.specs.Summaries.{place}
 use Rattle.spec.proofs.Lists.Counted.{place-in}
 use Rattle.codes.specs.Code.{slotCode}
 use Rattle.task.specs.Mapped.{useOf, Mapped}
-use Rattle.search_meaning.specs.Coded.{Coding, In, task, Ready, Sent, OverTerms}
+use Rattle.search_meaning.specs.Coded.{Coding, TermIn, task, Ready, Sent, OverTerms}
 use Rattle.search_meaning.specs.Codings.{slotNaming, RuleSource}
 use Rattle.search_meaning.proofs.OverTerms.{sent-is}
 
 module _ {Y : Type 0} (c : Coding (Term Y)) (src : List (Subgoal (Term ℕ))) (lasts : List ℕ) (tgt : List (Subgoal (Term Y))) (own b : List ℕ) (r : RuleSource c src tgt own b) where
-  named : (t : Term ℕ) → In t src → slotCode t < 64 → var (slotCode t) ≡ t
+  named : (t : Term ℕ) → TermIn t src → slotCode t < 64 → var (slotCode t) ≡ t
   named (var x) i h = refl
   named (con k) i h = absurd (omega arith)
 
@@ -23,7 +23,7 @@ module _ {Y : Type 0} (c : Coding (Term Y)) (src : List (Subgoal (Term ℕ))) (l
   apart i g e (var x) m h o = let low : x < 32 = r .source (var x) (g, place-in src (suc i) e, m) in absurd (omega arith)
   apart i g e (con k) m h o = absurd (omega arith)
 
-  kept : (t : Term ℕ) → In t src → 64 ≤ slotCode t → c .code (c .read (slotCode t)) ≡ slotCode t
+  kept : (t : Term ℕ) → TermIn t src → 64 ≤ slotCode t → c .code (c .read (slotCode t)) ≡ slotCode t
   kept (var x) i h = let low : x < 32 = r .source (var x) i in absurd (omega arith)
   kept (con k) i h = let w = r .constants k (r .source (con k) i) in ap (c .code) (w .1) ∙ w .0
 

@@ -1,4 +1,4 @@
--- The words of crate coding as namings of a source's terms and codings of a target's terms.
+-- The codes of crate coding as namings of a source's terms and codings of a target's terms.
 use mathlib.Core.Path.{_≡_}
 use mathlib.Core.Bool.{cond}
 use mathlib.Core.List.{List}
@@ -9,11 +9,11 @@ use Rattle.spec.specs.Words.{_∈_, Term, var, con, Subgoal}
 use Rattle.spec.specs.Summaries.{Own, old, fresh}
 use Rattle.codes.specs.Code.{variableTag, constantTag, freshTag, termCode, ownCode, slotCode, ownSlot, keptSlot}
 use Rattle.spec.specs.RuleLayout.{TermWithin}
-use Rattle.search_meaning.specs.Coded.{Naming, Coding, Bound, In}
+use Rattle.search_meaning.specs.Coded.{Naming, Coding, Bound, TermIn}
 
 -- a rule as a source
 abbrev pub slotNaming : Naming (Term ℕ)
-slotNaming = record { word = slotCode; home = λ t. 0; name = λ u x. var x }
+slotNaming = record { code = slotCode; home = λ t. 0; name = λ u x. var x }
 
 -- an expansion as a source
 abbrev pub homeOf : Term (Own ℕ) → ℕ
@@ -25,11 +25,11 @@ abbrev pub ownNamed : ℕ → ℕ → Term (Own ℕ)
 ownNamed u x = cond (ltb x 32) (var (old x)) (var (fresh u (x - 32)))
 
 abbrev pub ownNaming : Naming (Term (Own ℕ))
-ownNaming = record { word = ownSlot; home = homeOf; name = ownNamed }
+ownNaming = record { code = ownSlot; home = homeOf; name = ownNamed }
 
 -- the use numbered u as a source that keeps the list's terms
 abbrev pub keptNaming : ℕ → Naming (Term (Own ℕ))
-keptNaming u = record { word = keptSlot; home = λ t. 0; name = λ w x. var (fresh u x) }
+keptNaming u = record { code = keptSlot; home = λ t. 0; name = λ w x. var (fresh u x) }
 
 -- a rule as a target
 abbrev pub readTerm : ℕ → Term ℕ
@@ -51,14 +51,14 @@ OwnWithin (var (old x)) = x < 32
 OwnWithin (var (fresh u x)) = x < 32
 OwnWithin (con c) = c < 4294967296
 
--- What makes the words of a rule's subgoals, as a source, and a target's words fit each other. A question and a summary are such sources.
+-- What makes the codes of a rule's subgoals, as a source, and a target's codes fit each other. A question and a summary are such sources.
 pub record RuleSource {Y : Type 0} (c : Coding (Term Y)) (src : List (Subgoal (Term ℕ))) (tgt : List (Subgoal (Term Y))) (own b : List ℕ) : Type 0 where
   pub room : (g : Subgoal (Term ℕ)) → g ∈ src → length (g .terms) ≤ 8
   pub alike : (g : Subgoal (Term ℕ)) (h : Subgoal (Term Y)) → g ∈ src → h ∈ tgt → g .relation ≡ h .relation → length (g .terms) ≡ length (h .terms)
   pub rows : length own ≡ length tgt
-  pub source : (t : Term ℕ) → In t src → TermWithin t
-  pub target : (d : Term Y) → In d tgt → c .read (c .code d) ≡ d
-  -- constants have one word in source and target
+  pub source : (t : Term ℕ) → TermIn t src → TermWithin t
+  pub target : (d : Term Y) → TermIn d tgt → c .read (c .code d) ≡ d
+  -- constants have one code in source and target
   pub constants : (k : ℕ) → k < 4294967296 → (c .code (con k) ≡ constantTag + k) × (c .read (constantTag + k) ≡ con k)
   pub low : (x : ℕ) → Bound b x → x < 32
   pub given : (x : ℕ) → Bound b x → c .code (c .read (getD b x 0)) ≡ getD b x 0

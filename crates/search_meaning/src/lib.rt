@@ -1,1 +1,1 @@
-// No code: what the search promises on words, tied to the definitions of crate words.
+// No code: what the search promises on codes, tied to the definitions of crate codes.

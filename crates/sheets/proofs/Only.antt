@@ -4,7 +4,7 @@ use mathlib.Core.List.{List}
 use Prim.Native.Nat.{ℕ}
 use Rattle.spec.specs.declared.Reason.{Reason}
 use Rattle.spec.specs.Refusals.{ofEntry}
-use Rattle.spec.specs.Table.{Fault1, Refused}
+use Rattle.spec.specs.Table.{Fault1, RewriterRefusal}
 use Rattle.spec.specs.Given.{Given, answerBytes, witnessBytes}
 use Rattle.outcomes.proofs.Once.{given-value, given-result, given-unrefused, refused-same}
 use Rattle.sheets.specs.Sheet.{accepts, refuses, ComesTrue}
@@ -17,11 +17,11 @@ module _ (book answer witness : List ℕ) (comes : ComesTrue (accepts book answe
       let result = given-result book n m g (own .given) in
       (ap (λ v. answerBytes (v .question) (g .result)) value ∙ ap (answerBytes (own .given .value .question)) result ∙ own .answer-is, ap witnessBytes result ∙ own .witness-is)
 
-  pub accepted-unrefused : {r : Reason} → Refused book n m r → ⊥
+  pub accepted-unrefused : {r : Reason} → RewriterRefusal book n m r → ⊥
   accepted-unrefused = given-unrefused book n m (comes n m room .given)
 
 module _ (book : List ℕ) (number place : ℕ) (comes : ComesTrue (refuses book number place)) (n m : ℕ) (room : Fault1 n m → ⊥) where
-  pub refused-only : {r : Reason} → Refused book n m r → r ≡ ofEntry number place
+  pub refused-only : {r : Reason} → RewriterRefusal book n m r → r ≡ ofEntry number place
   refused-only r = refused-same book n m r (comes n m room)
 
   pub refused-ungiven : Given book n m → ⊥

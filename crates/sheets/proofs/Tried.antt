@@ -15,7 +15,7 @@ use Rattle.spec.proofs.Examples.Written.{x0, x1, rule, on, at1}
 use Rattle.spec.specs.BookLayout.{mostSummaries}
 use Rattle.spec.specs.Contents.{count}
 use Rattle.spec.specs.Refusals.{ofBook, ofEntry, longest, Fault2, two, three}
-use Rattle.spec.specs.Table.{Fault1, Refused, read}
+use Rattle.spec.specs.Table.{Fault1, RewriterRefusal, read}
 use Rattle.sheets.specs.Sheet.{Sheet, accepts, refuses, leads, ComesTrue}
 use Rattle.sheets.proofs.LeadTest.{sameLead, lead-sound}
 use Rattle.sheets.proofs.ValueTest.{many, many-sound, accepted, accepted-sound, refused, refused-sound}
@@ -52,16 +52,16 @@ module _ (book : List ℕ) where
   turnedDown k = is2 k || (is3 k || (is9 k || is10 k))
 
   module _ (n m : ℕ) (room : Fault1 n m → ⊥) (k : ℕ) where
-    numbered : (j : ℕ) (b : Bool) → (T b → Refused book n m (ofBook j)) → T (eqb k j && b) → Refused book n m (ofBook k)
-    numbered j b sound h = let w = and-parts (eqb k j) b h in subst (λ i. Refused book n m (ofBook i)) (sym (eqb→eq k j (w .0))) (sound (w .1))
+    numbered : (j : ℕ) (b : Bool) → (T b → RewriterRefusal book n m (ofBook j)) → T (eqb k j && b) → RewriterRefusal book n m (ofBook k)
+    numbered j b sound h = let w = and-parts (eqb k j) b h in subst (λ i. RewriterRefusal book n m (ofBook i)) (sym (eqb→eq k j (w .0))) (sound (w .1))
 
-    three-sound : T (rightSize && ltb mostSummaries (count book)) → Refused book n m (ofBook 3)
+    three-sound : T (rightSize && ltb mostSummaries (count book)) → RewriterRefusal book n m (ofBook 3)
     three-sound h = let w = and-parts rightSize (ltb mostSummaries (count book)) h in read room (three (size-sound (w .0)) (ltb→lt mostSummaries (count book) (w .1)))
 
-    either : (a b : Bool) → (T a → Refused book n m (ofBook k)) → (T b → Refused book n m (ofBook k)) → T (a || b) → Refused book n m (ofBook k)
+    either : (a b : Bool) → (T a → RewriterRefusal book n m (ofBook k)) → (T b → RewriterRefusal book n m (ofBook k)) → T (a || b) → RewriterRefusal book n m (ofBook k)
     either a b f g h = ⊎-elim f g (or-cases a b h)
 
-    turned-down : T (turnedDown k) → Refused book n m (ofBook k)
+    turned-down : T (turnedDown k) → RewriterRefusal book n m (ofBook k)
     turned-down =
         either (is2 k) (is3 k || (is9 k || is10 k)) (numbered 2 (ltb (length book) 2) (λ h. read room (two (inl (ltb→lt (length book) 2 h)))))
         (either (is3 k) (is9 k || is10 k) (numbered 3 (rightSize && ltb mostSummaries (count book)) three-sound)
@@ -77,5 +77,5 @@ pub tried-sound : (s : Sheet) → T (tried s) → ComesTrue s
 tried-sound (accepts book answer witness) h = λ n m room. accepted-sound book n m room answer witness h
 tried-sound (refuses book number place) h =
     let w = and-parts (turnedDown book number) (eqb place 0) h in
-    λ n m room. subst (λ p. Refused book n m (ofEntry number p)) (sym (eqb→eq place 0 (w .1))) (turned-down book n m room number (w .0))
+    λ n m room. subst (λ p. RewriterRefusal book n m (ofEntry number p)) (sym (eqb→eq place 0 (w .1))) (turned-down book n m room number (w .0))
 tried-sound (leads need stamp l) h = lead-sound (lead need stamp) l h

@@ -12,10 +12,10 @@ use Rattle.spec.specs.Result.{Answered}
 use Rattle.spec.proofs.Decided.Rows.{allRows}
 use Rattle.spec.proofs.Lists.Tests.{and-parts, any, any-sound}
 use Rattle.spec.proofs.Decided.Equal.{eqNumber, eqList}
-use Rattle.spec.proofs.Examples.Values.{Sheet, sheets, Meant, meant}
+use Rattle.spec.proofs.Examples.Values.{ValueSheet, sheets, Meant, meant}
 use Rattle.spec.specs.BookLayout.{SoundBook}
 use Rattle.spec.specs.Refusals.{ofBook}
-use Rattle.spec.specs.Table.{mostRows, Fault1, Fault9, Refused, nine, ten}
+use Rattle.spec.specs.Table.{mostRows, Fault1, Fault9, RewriterRefusal, nine, ten}
 use Rattle.spec.specs.Given.{answerBytes, witnessBytes}
 use Rattle.outcomes.proofs.Grants.{value-safe}
 use Rattle.outcomes.proofs.Total.{fault-9}
@@ -39,11 +39,11 @@ module _ (book : List ℕ) where
   abbrev few : Book → Bool
   few b = soundBook book b && leb (rowCount b) mostRows
 
-  record Few (b : Book) : Type 0 where
+  record RowsFew (b : Book) : Type 0 where
     sound : SoundBook book b
     at-most : Fault9 (admittedOf b) (b .question) → ⊥
 
-  few-sound : (b : Book) → T (few b) → Few b
+  few-sound : (b : Book) → T (few b) → RowsFew b
   few-sound b h =
       let w = and-parts (soundBook book b) (leb (rowCount b) mostRows) h in
       let s = book-sound book b (w .0) in
@@ -54,13 +54,13 @@ module _ (book : List ℕ) where
   abbrev pub many : Book → Bool
   many b = soundBook book b && ltb mostRows (rowCount b)
 
-  abbrev acceptedAs : List ℕ → List ℕ → Sheet → Bool
+  abbrev acceptedAs : List ℕ → List ℕ → ValueSheet → Bool
   acceptedAs answer witness v = few (v .book) && laidOut answer witness (v .book .question) (v .expected)
 
   abbrev pub accepted : List ℕ → List ℕ → Bool
   accepted answer witness = any (acceptedAs answer witness) sheets
 
-  abbrev refusedAs : Sheet → Bool
+  abbrev refusedAs : ValueSheet → Bool
   refusedAs v = few (v .book) && nothing (v .expected)
 
   abbrev pub refused : Bool
@@ -70,7 +70,7 @@ module _ (book : List ℕ) where
     pub accepted-sound : (answer witness : List ℕ) → T (accepted answer witness) → GivenAs book answer witness n m
     accepted-sound answer witness h = let s = any-sound (acceptedAs answer witness) sheets h in by (s .0) (s .1) (s .2)
       where
-        told : (v : Sheet) → Few (v .book) → (o : Option Answered) → Meant (v .book) o → T (laidOut answer witness (v .book .question) o) → GivenAs book answer witness n m
+        told : (v : ValueSheet) → RowsFew (v .book) → (o : Option Answered) → Meant (v .book) o → T (laidOut answer witness (v .book .question) o) → GivenAs book answer witness n m
         told v f none right t = absurd t
         told v f (some a) right t =
             let w = and-parts (eqList eqNumber .test (answerBytes (v .book .question) a) answer) (eqList eqNumber .test (witnessBytes a) witness) t in
@@ -80,20 +80,20 @@ module _ (book : List ℕ) where
               witness-is = eqList eqNumber .sound (witnessBytes a) witness (w .1);
             }
 
-        by : (v : Sheet) → v ∈ sheets → T (acceptedAs answer witness v) → GivenAs book answer witness n m
+        by : (v : ValueSheet) → v ∈ sheets → T (acceptedAs answer witness v) → GivenAs book answer witness n m
         by v i t = let w = and-parts (few (v .book)) (laidOut answer witness (v .book .question) (v .expected)) t in told v (few-sound (v .book) (w .0)) (v .expected) (meant v i) (w .1)
 
-    pub refused-sound : T refused → Refused book n m (ofBook 10)
+    pub refused-sound : T refused → RewriterRefusal book n m (ofBook 10)
     refused-sound h = let s = any-sound refusedAs sheets h in by (s .0) (s .1) (s .2)
       where
-        told : (v : Sheet) → Few (v .book) → (o : Option Answered) → Meant (v .book) o → T (nothing o) → Refused book n m (ofBook 10)
+        told : (v : ValueSheet) → RowsFew (v .book) → (o : Option Answered) → Meant (v .book) o → T (nothing o) → RewriterRefusal book n m (ofBook 10)
         told v f none never t = ten room (v .book) (f .sound) (f .at-most) never
         told v f (some a) right t = absurd t
 
-        by : (v : Sheet) → v ∈ sheets → T (refusedAs v) → Refused book n m (ofBook 10)
+        by : (v : ValueSheet) → v ∈ sheets → T (refusedAs v) → RewriterRefusal book n m (ofBook 10)
         by v i t = let w = and-parts (few (v .book)) (nothing (v .expected)) t in told v (few-sound (v .book) (w .0)) (v .expected) (meant v i) (w .1)
 
-    pub many-sound : (b : Book) → T (many b) → Refused book n m (ofBook 9)
+    pub many-sound : (b : Book) → T (many b) → RewriterRefusal book n m (ofBook 9)
     many-sound b h =
         let w = and-parts (soundBook book b) (ltb mostRows (rowCount b)) h in
         let s = book-sound book b (w .0) in

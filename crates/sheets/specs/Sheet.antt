@@ -4,7 +4,7 @@ use mathlib.Core.List.{List}
 use Prim.Native.Nat.{ℕ}
 use Rattle.spec.specs.Refresh.{Lead, lead}
 use Rattle.spec.specs.Refusals.{ofEntry}
-use Rattle.spec.specs.Table.{Fault1, Refused}
+use Rattle.spec.specs.Table.{Fault1, RewriterRefusal}
 use Rattle.spec.specs.Given.{Given, answerBytes, witnessBytes}
 
 -- The bytes of a book, and those of its answer and its witness, or number and place of its refusal; or a need, a stamp, and the stamp's lead.
@@ -22,5 +22,5 @@ pub record GivenAs (book answer witness : List ℕ) (n m : ℕ) : Type 0 where
 -- What the sheet says comes true, whatever areas are lent that are long enough ("answer area below 534 bytes, or witness area below 120" is number 1).
 abbrev pub ComesTrue : Sheet → Type 0
 ComesTrue (accepts book answer witness) = (n m : ℕ) → (Fault1 n m → ⊥) → GivenAs book answer witness n m
-ComesTrue (refuses book number place) = (n m : ℕ) → (Fault1 n m → ⊥) → Refused book n m (ofEntry number place)
+ComesTrue (refuses book number place) = (n m : ℕ) → (Fault1 n m → ⊥) → RewriterRefusal book n m (ofEntry number place)
 ComesTrue (leads need stamp l) = lead need stamp ≡ l

@@ -29,23 +29,23 @@ abbrev pub summaryMost : ℕ
 summaryMost = 8
 
 -- An entry before it has a place: its stamp and its body.
-pub record Entry : Type 0 where
+pub record StampedBody : Type 0 where
   pub stamp : ℕ
   pub body : List ℕ
 
-abbrev pub entryOf : Summary → Entry
+abbrev pub entryOf : Summary → StampedBody
 entryOf s = record { stamp = s .stamp; body = ruleBytes (s .rule) }
 
--- "Entry 0 is the relations (stamp 0), entry 1 the question, entry i + 1 summary i." "Entry 1 carries the need r, each summary its stamp s."
-abbrev pub entriesOf : Book → List Entry
+-- "StampedBody 0 is the relations (stamp 0), entry 1 the question, entry i + 1 summary i." "StampedBody 1 carries the need r, each summary its stamp s."
+abbrev pub entriesOf : Book → List StampedBody
 entriesOf b = record { stamp = 0; body = b .arities } ∷ record { stamp = b .need; body = ruleBytes (b .question) } ∷ map entryOf (b .summaries)
 
 -- "offset, length, stamp, four bytes each"; "Bodies stand without gaps in entry order": the first at `at`
-abbrev pub contentsFrom : ℕ → List Entry → List ℕ
+abbrev pub contentsFrom : ℕ → List StampedBody → List ℕ
 contentsFrom at [] = []
 contentsFrom at (e ∷ es) = little 4 at ++ (little 4 (length (e .body)) ++ (little 4 (e .stamp) ++ contentsFrom (at + length (e .body)) es))
 
-abbrev pub bodies : List Entry → List (List ℕ)
+abbrev pub bodies : List StampedBody → List (List ℕ)
 bodies es = map (λ e. e .body) es
 
 -- "Contents first, then the bodies."

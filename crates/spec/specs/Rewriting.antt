@@ -3,10 +3,10 @@ use mathlib.Core.Path.{_≡_}
 use mathlib.Core.List.{List}
 use Prim.Native.Nat.{ℕ}
 use lib.ListN.{length}
-use Rattle.spec.specs.Table.{Refused}
+use Rattle.spec.specs.Table.{RewriterRefusal}
 use Rattle.spec.specs.declared.Reason.{Reason}
 use Rattle.spec.specs.declared.Outcome.{Outcome}
-use Rattle.spec.specs.declared.Outcome.the-variants.{Done, Refused as RefusedWith}
+use Rattle.spec.specs.declared.Outcome.the-variants.{Done, Refused}
 use Rattle.spec.specs.Given.{written, answerBytes, witnessBytes, Given}
 
 -- "An accepted answer is written to the answer area as a rule"; "Both lengths are returned; bytes past them stay."
@@ -20,10 +20,10 @@ pub record Accepted (book answer answer′ witness witness′ : List ℕ) (n m :
 module _ (book answer answer′ witness witness′ : List ℕ) where
   -- "A refusal returns number and place; no lent byte or record changes."
   pub record TurnedDown (r : Reason) : Type 0 where
-    pub refused : Refused book (length answer) (length witness) r
+    pub refused : RewriterRefusal book (length answer) (length witness) r
     pub answer-stays : answer′ ≡ answer
     pub witness-stays : witness′ ≡ witness
 
   abbrev pub Rewriting : Outcome → Type 0
   Rewriting (Done n m) = Accepted book answer answer′ witness witness′ n m
-  Rewriting (RefusedWith r) = TurnedDown r
+  Rewriting (Refused r) = TurnedDown r

@@ -37,8 +37,8 @@ abbrev pub Fault10 : Summaries → Rule ℕ → Type 0
 Fault10 s q = (l : List (Subgoal (Term ℕ))) → Rewrites s q l → ⊥
 
 -- "Order: 1 to 5, then entry by entry 6, 7, 8, then 9, then 10." answer and witness are the areas' lengths.
-pub data Refused (book : List ℕ) (answer witness : ℕ) : Reason → Type 0 where
-  one : Fault1 answer witness → Refused book answer witness (ofBook 1)
-  read : {r : Reason} → (Fault1 answer witness → ⊥) → Refusal book r → Refused book answer witness r
-  nine : (Fault1 answer witness → ⊥) → (b : Book) → SoundBook book b → Fault9 (admittedOf b) (b .question) → Refused book answer witness (ofBook 9)
-  ten : (Fault1 answer witness → ⊥) → (b : Book) → SoundBook book b → (Fault9 (admittedOf b) (b .question) → ⊥) → Fault10 (admittedOf b) (b .question) → Refused book answer witness (ofBook 10)
+pub data RewriterRefusal (book : List ℕ) (answer witness : ℕ) : Reason → Type 0 where
+  one : Fault1 answer witness → RewriterRefusal book answer witness (ofBook 1)
+  read : {r : Reason} → (Fault1 answer witness → ⊥) → Refusal book r → RewriterRefusal book answer witness r
+  nine : (Fault1 answer witness → ⊥) → (b : Book) → SoundBook book b → Fault9 (admittedOf b) (b .question) → RewriterRefusal book answer witness (ofBook 9)
+  ten : (Fault1 answer witness → ⊥) → (b : Book) → SoundBook book b → (Fault9 (admittedOf b) (b .question) → ⊥) → Fault10 (admittedOf b) (b .question) → RewriterRefusal book answer witness (ofBook 10)

@@ -14,7 +14,7 @@ use Rattle.task.specs.Completion.{Completion}
 use Rattle.placing.specs.declared.Places.{Places}
 use Rattle.summary_rows.specs.RowPlaces.{RowFront, OnTargets, Begins}
 use Rattle.summary_rows.specs.FixedPlaces.{fixing, InReach}
-use Rattle.summary_rows.proofs.OneUse.{Stands, StandFrom, stand-at, stand-drop, stand-join, completes-stand, stand-completes, stand-mapped}
+use Rattle.summary_rows.proofs.OneUse.{StandsAt, StandFrom, stand-at, stand-drop, stand-join, completes-stand, stand-completes, stand-mapped}
 use Rattle.summary_rows.proofs.Fixing.{AgreeTo, fixing-forced, fixing-fits}
 use Rattle.summary_rows.proofs.RowFronts.{values, whole-long, whole-stands, row-stands}
 
@@ -76,8 +76,8 @@ module _ (p : Task) (h j : ℕ) (ks : List ℕ) (long : length ks ≡ 96) (on : 
         body : (length l ≡ goals p - h) × StandFrom p h v l
         body = completes-stand p (on .task .oneUse) (goals p - h) h v l (first .holds .completes)
 
-        others : (more : List ℕ) × (length more ≡ h - j) × ((i : ℕ) → i < h - j → Stands p v (j + i) (getD more i 0))
-        others = choices (λ i k. Stands p v (j + i) k) (h - j) (λ i m. let w = on .task .safe v l (first .holds .completes) (j + i) (omega arith) in (w .0, record { within = w .1; agrees = w .2 }))
+        others : (more : List ℕ) × (length more ≡ h - j) × ((i : ℕ) → i < h - j → StandsAt p v (j + i) (getD more i 0))
+        others = choices (λ i k. StandsAt p v (j + i) k) (h - j) (λ i m. let w = on .task .safe v l (first .holds .completes) (j + i) (omega arith) in (w .0, record { within = w .1; agrees = w .2 }))
 
         more : List ℕ
         more = others .0
@@ -85,7 +85,7 @@ module _ (p : Task) (h j : ℕ) (ks : List ℕ) (long : length ks ≡ 96) (on : 
         head-long : length (take j ks ++ more) ≡ h
         head-long = length-append (take j ks) more ∙ omega (arith, kept-long, others .1, on .few)
 
-        kept : (i : ℕ) → i < length (take j ks) → Stands p v i (getD (take j ks) i 0)
+        kept : (i : ℕ) → i < length (take j ks) → StandsAt p v i (getD (take j ks) i 0)
         kept i m =
             let o : i < j = omega (arith, kept-long) in
             rw (getD-take j ks i 0 o) record { within = on .within i o; agrees = fixing-fits p h j ks on v (first .holds .extends) i o }

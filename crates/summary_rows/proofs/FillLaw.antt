@@ -10,12 +10,12 @@ use lib.Seq.{length-take-le, take-all, take-at, take-take, take-set-le, drop-set
 use Rattle.spec.specs.Order.{ListBefore, First}
 use Rattle.task.specs.Task.{Task}
 use Rattle.placing.specs.declared.Places.{Places}
-use Rattle.summary_rows.specs.RowPlaces.{RowPlaces, PlacesWith, RowFront, AtFront, GoesOn, NextPlace}
+use Rattle.summary_rows.specs.RowPlaces.{RowPlaces, PlacesWith, RowFront, AtFront, RowGoesOn, NextPlace}
 use Rattle.summary_rows.proofs.Fronts.{front-same, front-before, front-last, front-put}
 use Rattle.summary_rows.proofs.RowFronts.{goes-on, front-row, front-long, front-begins}
 
 -- the first i of `all` are the first front of that length, of rows that begin with the first j of ks; behind the head `all` is ks
-pub record Filled (p : Task) (h j : ℕ) (ks : List ℕ) (i : ℕ) (all : List ℕ) : Type 0 where
+pub record FrontFilled (p : Task) (h j : ℕ) (ks : List ℕ) (i : ℕ) (all : List ℕ) : Type 0 where
   pub long : length all ≡ 96
   pub on : j ≤ i
   pub begins : take j all ≡ take j ks
@@ -24,10 +24,10 @@ pub record Filled (p : Task) (h j : ℕ) (ks : List ℕ) (i : ℕ) (all : List �
   pub least : (js : List ℕ) → PlacesWith p h j ks js → (take i all ≡ take i js) ⊎ ListBefore _<_ (take i all) (take i js)
 
 module _ (p : Task) (h j : ℕ) (ks : List ℕ) where
-  pub filled-start : length ks ≡ 96 → AtFront p h j ks → Filled p h j ks j ks
+  pub filled-start : length ks ≡ 96 → AtFront p h j ks → FrontFilled p h j ks j ks
   filled-start long at = record { long = long; on = omega arith; begins = refl; behind = refl; at = at; least = λ js y. inl (sym (y .begins)) }
 
-  module _ (i : ℕ) (all : List ℕ) (s : Filled p h j ks i all) where
+  module _ (i : ℕ) (all : List ℕ) (s : FrontFilled p h j ks i all) where
     module _ (low : i < h) (r : Places) (next : NextPlace p h i all 0 r) where
       -- some row goes on
       some-place : r .ok ≡ true
@@ -40,7 +40,7 @@ module _ (p : Task) (h j : ℕ) (ks : List ℕ) where
       abbrev k : ℕ
       k = next .found some-place .0
 
-      first : First (GoesOn p h i all 0) _<_ k
+      first : First (RowGoesOn p h i all 0) _<_ k
       first = next .found some-place .2
 
       is : r .ks ≡ set all i k
@@ -59,8 +59,8 @@ module _ (p : Task) (h j : ℕ) (ks : List ℕ) where
           same e = rw e (⊎-elim (λ q. inl (ap (λ n. take i js ++ (n ∷ [])) q)) (λ l. inr (front-same _<_ (take i js) (k ∷ []) (getD js i 0 ∷ []) (inl l)))
               (first .least (getD js i 0) (goes-on p h i all js 0 (y .row) low (sym e) (omega arith))))
 
-      pub filled-more : Filled p h j ks (i + 1) (r .ks)
-      filled-more = subst (Filled p h j ks (i + 1)) (sym is) record {
+      pub filled-more : FrontFilled p h j ks (i + 1) (r .ks)
+      filled-more = subst (FrontFilled p h j ks (i + 1)) (sym is) record {
         long = length-set all i k ∙ s .long;
         on = omega (arith, s .on);
         begins = take-set-le j all i k (s .on) ∙ s .begins;

@@ -21,7 +21,7 @@ nothing-bound x = go (decLt x 64)
     go (yes h) = getD-replicate {A = ℕ} 64 x 0 0 h
     go (no h) = List·getD-eq-default {A = ℕ} (replicate 64 0) 0 {n = x} (omega (arith, length-replicate {A = ℕ} 64 0))
 
--- One more word: the values that extend the bindings with it are those that extend the bindings and give the term that word.
+-- One more code: the values that extend the bindings with it are those that extend the bindings and give the term that code.
 module _ (g : List ℕ) (long : length g ≡ 64) (x y : ℕ) (v : ℕ → ℕ) where
   binding-long : length (binding g x y) ≡ 64
   binding-long = go (ltb x 64)
@@ -41,7 +41,7 @@ module _ (g : List ℕ) (long : length g ≡ 64) (x y : ℕ) (v : ℕ → ℕ) w
           slot (no o) = e z (λ u. n (getD-set-other g x z y 0 o ∙ u)) ∙ sym (getD-set-other g x z y 0 o)
       go false q z n = e z n
 
--- A slot has the word, and the others keep theirs.
+-- A slot has the code, and the others keep theirs.
 module _ (g : List ℕ) (long : length g ≡ 64) (x y : ℕ) (low : x < 64) where
   binding-is : binding g x y ≡ set g x y
   binding-is = ap (λ t. cond t (set g x y) g) (lt-ltb x 64 low)
@@ -81,35 +81,35 @@ module _ (p : Task) (ks : List ℕ) where
   abbrev termOf : ℕ → ℕ
   termOf j = getD (p .source) (9 * j + 1) 0
 
-  abbrev wordOf : ℕ → ℕ
-  wordOf j = getD (p .target) (9 * getD ks j 0 + 1) 0
+  abbrev codeOf : ℕ → ℕ
+  codeOf j = getD (p .target) (9 * getD ks j 0 + 1) 0
 
   fixing-long : (j : ℕ) → length (fixed j) ≡ 64
   unfolding fixing
   fixing-long zero = length-replicate {A = ℕ} 64 0
-  fixing-long (suc j) = binding-long (fixed j) (fixing-long j) (termOf j) (wordOf j) (λ x. x)
+  fixing-long (suc j) = binding-long (fixed j) (fixing-long j) (termOf j) (codeOf j) (λ x. x)
 
   pub fixing-forced : (j : ℕ) → ((i : ℕ) → i < j → widthOf p i ≡ 1) → (v : ℕ → ℕ) → AgreeTo p j ks v → Extends (fixing (p .source) (p .target) ks j) v
   unfolding fixing
   fixing-forced zero single v a = λ x n. absurd (n (nothing-bound x))
   fixing-forced (suc j) single v a =
-      binding-extends (fixed j) (fixing-long j) (termOf j) (wordOf j) v
+      binding-extends (fixed j) (fixing-long j) (termOf j) (codeOf j) v
       (fixing-forced j (λ i h. single i (omega arith)) v (λ i h. a i (omega arith))) (only-term p j (getD ks j 0) (single j (omega arith)) v (a j (omega arith)))
 
-  -- each place's slot has its target's word, since no two have one slot
-  fixing-word : (j : ℕ) → ((i : ℕ) → i < j → headTerm p i < 64) → ((i k : ℕ) → i < k → k < j → headTerm p i ≡ headTerm p k → ⊥) → (i : ℕ) → i < j → getD (fixed j) (termOf i) 0 ≡ wordOf i
+  -- each place's slot has its target's code, since no two have one slot
+  fixing-code : (j : ℕ) → ((i : ℕ) → i < j → headTerm p i < 64) → ((i k : ℕ) → i < k → k < j → headTerm p i ≡ headTerm p k → ⊥) → (i : ℕ) → i < j → getD (fixed j) (termOf i) 0 ≡ codeOf i
   unfolding fixing
-  fixing-word zero slots apart i l = absurd (omega arith)
-  fixing-word (suc j) slots apart i l = go (decLt i j) (fixing-word j (λ a b. slots a (omega arith)) (λ a k b c. apart a k b (omega arith)) i)
+  fixing-code zero slots apart i l = absurd (omega arith)
+  fixing-code (suc j) slots apart i l = go (decLt i j) (fixing-code j (λ a b. slots a (omega arith)) (λ a k b c. apart a k b (omega arith)) i)
     where
-      go : Dec (i < j) → (i < j → getD (fixed j) (termOf i) 0 ≡ wordOf i) → getD (binding (fixed j) (termOf j) (wordOf j)) (termOf i) 0 ≡ wordOf i
-      go (yes o) before = binding-other (fixed j) (fixing-long j) (termOf j) (wordOf j) (slots j (omega arith)) (termOf i) (apart i j o (omega arith)) ∙ before o
-      go (no o) before = let q : i ≡ j = omega arith in rw q (binding-here (fixed j) (fixing-long j) (termOf j) (wordOf j) (slots j (omega arith)))
+      go : Dec (i < j) → (i < j → getD (fixed j) (termOf i) 0 ≡ codeOf i) → getD (binding (fixed j) (termOf j) (codeOf j)) (termOf i) 0 ≡ codeOf i
+      go (yes o) before = binding-other (fixed j) (fixing-long j) (termOf j) (codeOf j) (slots j (omega arith)) (termOf i) (apart i j o (omega arith)) ∙ before o
+      go (no o) before = let q : i ≡ j = omega arith in rw q (binding-here (fixed j) (fixing-long j) (termOf j) (codeOf j) (slots j (omega arith)))
 
 -- The bindings put the first places of a head on targets of the head's relation.
 module _ (p : Task) (h j : ℕ) (ks : List ℕ) (on : OnTargets p h j ks) where
   pub fixing-fits : (v : ℕ → ℕ) → Extends (fixing (p .source) (p .target) ks j) v → AgreeTo p j ks v
-  fixing-fits v e i l = term-only p i (getD ks i 0) (on .task .single i below) v (on .relation i l) (value-slot v (headTerm p i) slot ∙ e (headTerm p i) (λ z. solid (sym word ∙ z)) ∙ word)
+  fixing-fits v e i l = term-only p i (getD ks i 0) (on .task .single i below) v (on .relation i l) (value-slot v (headTerm p i) slot ∙ e (headTerm p i) (λ z. solid (sym code ∙ z)) ∙ code)
     where
       below : i < h
       below = omega (arith, on .few)
@@ -117,8 +117,8 @@ module _ (p : Task) (h j : ℕ) (ks : List ℕ) (on : OnTargets p h j ks) where
       slot : headTerm p i < 64
       slot = on .task .slots i below
 
-      word : getD (fixing (p .source) (p .target) ks j) (headTerm p i) 0 ≡ getD (p .target) (9 * getD ks i 0 + 1) 0
-      word = fixing-word p ks j (λ a b. on .task .slots a (omega (arith, on .few))) (λ a k b c. on .task .apart a k b (omega (arith, on .few))) i l
+      code : getD (fixing (p .source) (p .target) ks j) (headTerm p i) 0 ≡ getD (p .target) (9 * getD ks i 0 + 1) 0
+      code = fixing-code p ks j (λ a b. on .task .slots a (omega (arith, on .few))) (λ a k b c. on .task .apart a k b (omega (arith, on .few))) i l
 
       solid : getD (p .target) (9 * getD ks i 0 + 1) 0 ≡ 0 → ⊥
       solid z =

@@ -8,15 +8,15 @@ use lib.ListN.{length, getD, replicate, length-map, length-replicate, List·getD
 use lib.Seq.{getD-append-add}
 use Rattle.spec.specs.Words.{_∈_, Term, var, con, Subgoal, Rule, DistinctVariables}
 use Rattle.choice_theory.specs.Lists.{in-getD, getD-in}
-use Rattle.codes.specs.Code.{termCode, slotCode, wordsOf}
+use Rattle.codes.specs.Code.{termCode, slotCode, codesOf}
 use Rattle.spec.specs.RuleLayout.{TermWithin}
 use Rattle.task.specs.Task.{Task, goals, targets, sourceTerm, widthOf, valueOf, Agrees, Completes}
 use Rattle.search_meaning.specs.Codings.{slotNaming, termCoding}
-use Rattle.search_meaning.proofs.AtWords.{nothing, map-get, relation-at, term-at, width-at}
+use Rattle.search_meaning.proofs.AtCodes.{nothing, map-get, relation-at, term-at, width-at}
 use Rattle.search_meaning.proofs.Sizes.{sized}
 use Rattle.summary_rows.specs.RowTask.{headRelation, alone, placed, onto, rowTask, TaskOf}
 use Rattle.summary_rows.specs.RowPlaces.{headTerm, HeadTask}
-use Rattle.summary_rows.proofs.OneUse.{Stands, completes-stand}
+use Rattle.summary_rows.proofs.OneUse.{StandsAt, completes-stand}
 use Rattle.summary_rows.proofs.Fixing.{term-only}
 use Rattle.summary_rows.proofs.TaskLaws.{fit-other, parts, room, alike, placed-long, onto-long, small}
 use Rattle.spec.proofs.Lists.Zeros.{zero-at}
@@ -34,15 +34,15 @@ distinct-at (var x ∷ ts) d i zero l m e = omega arith
 distinct-at (var x ∷ ts) d zero (suc k) l m e = d .0 (Memᴰ·cast e (getD-in (con 0) ts k (omega arith)))
 distinct-at (var x ∷ ts) d (suc i) (suc k) l m e = distinct-at ts (d .1) i k (omega arith) (omega arith) e
 
--- The words of a subgoal that is a term alone.
+-- The codes of a subgoal that is a term alone.
 module _ (f : Term ℕ → ℕ) (gs : List (Subgoal (Term ℕ))) (i : ℕ) (u : Term ℕ) (l : i < length gs) (is : getD gs i nothing ≡ alone u) where
-  alone-relation : getD (wordsOf f gs) (9 * i) 0 ≡ headRelation
+  alone-relation : getD (codesOf f gs) (9 * i) 0 ≡ headRelation
   alone-relation = relation-at f gs i l ∙ ap (λ (g : Subgoal (Term ℕ)). g .relation) is
 
-  pub alone-term : getD (wordsOf f gs) (9 * i + 1) 0 ≡ f u
+  pub alone-term : getD (codesOf f gs) (9 * i + 1) 0 ≡ f u
   alone-term =
       let z : 9 * i + 1 ≡ 9 * i + 1 + 0 = omega arith in
-      ap (λ n. getD (wordsOf f gs) n 0) z
+      ap (λ n. getD (codesOf f gs) n 0) z
       ∙ term-at f gs i 0 (con 0) l (omega arith) (omega (arith, ap (λ (g : Subgoal (Term ℕ)). length (g .terms)) is))
       ∙ ap (λ (g : Subgoal (Term ℕ)). f (getD (g .terms) 0 (con 0))) is
 
@@ -90,7 +90,7 @@ module _ (v q : Rule ℕ) (ts : List (Term ℕ)) (p : Task) (h : ℕ) (w : TaskO
   single : (i : ℕ) → i < h → widthOf t i ≡ 1
   single i l = width-at (placed v) i ∙ ap (λ (g : Subgoal (Term ℕ)). length (g .terms)) (head-at i l)
 
-  -- The variable of place i stands in a subgoal g of the body, which has become a subgoal d of the question: so its word is that of a term of the question.
+  -- The variable of place i stands in a subgoal g of the body, which has become a subgoal d of the question: so its code is that of a term of the question.
   module _ (b : ℕ → ℕ) (l : List ℕ) (c : Completes t (goals t - h) h b l) (i : ℕ) (low : i < h) where
     abbrev x : ℕ
     x = named i low .0
@@ -124,7 +124,7 @@ module _ (v q : Rule ℕ) (ts : List (Term ℕ)) (p : Task) (h : ℕ) (w : TaskO
     room-at : a < 8
     room-at = omega (arith, term .1, room v q ts p h w g (Memᴰ·append-right (map alone (v .head)) (body .1)))
 
-    stands : Stands t b (h + m) (getD l m 0)
+    stands : StandsAt t b (h + m) (getD l m 0)
     stands = let s = completes-stand t (zero-at (length (placed v))) (goals t - h) h b l c in s .1 m (omega (arith, s .0, goals-are, long, place .1))
 
     within : getD l m 0 < length (onto ts q)
@@ -148,9 +148,9 @@ module _ (v q : Rule ℕ) (ts : List (Term ℕ)) (p : Task) (h : ℕ) (w : TaskO
     abbrev u : Term ℕ
     u = getD (d .terms) a (con 0)
 
-    -- on words: the variable's slot has the word of u
-    word : valueOf b x ≡ termCode u
-    word = ap (valueOf b) (sym here) ∙ stands .agrees .terms a (omega (arith, width-at (placed v) (h + m), fits)) ∙ term-at termCode (onto ts q) (getD l m 0) a (con 0) within room-at wide
+    -- on codes: the variable's slot has the code of u
+    code : valueOf b x ≡ termCode u
+    code = ap (valueOf b) (sym here) ∙ stands .agrees .terms a (omega (arith, width-at (placed v) (h + m), fits)) ∙ term-at termCode (onto ts q) (getD l m 0) a (con 0) within room-at wide
       where
         fits : a < length (getD (placed v) (h + m) nothing .terms)
         fits = omega (arith, term .1, ap (λ (k : Subgoal (Term ℕ)). length (k .terms)) source-at)
@@ -167,7 +167,7 @@ module _ (v q : Rule ℕ) (ts : List (Term ℕ)) (p : Task) (h : ℕ) (w : TaskO
       omega (arith, targets-are, past),
       term-only t i (known .0) (single i low) b
           (alone-relation termCode (onto ts q) (known .0) u past is ∙ sym (alone-relation slotCode (placed v) i (head i) (omega (arith, long)) (head-at i low)))
-          (ap (valueOf b) (head-slot i low) ∙ word ∙ sym (alone-term termCode (onto ts q) (known .0) u past is)),
+          (ap (valueOf b) (head-slot i low) ∙ code ∙ sym (alone-term termCode (onto ts q) (known .0) u past is)),
     )
       where
         past : known .0 < length (onto ts q)
@@ -189,4 +189,4 @@ module _ (v q : Rule ℕ) (ts : List (Term ℕ)) (p : Task) (h : ℕ) (w : TaskO
   }
 
   pub row-ready : HeadTask p h
-  row-ready = subst (λ r. HeadTask r h) (sym (w .words)) ready-here
+  row-ready = subst (λ r. HeadTask r h) (sym (w .codes)) ready-here

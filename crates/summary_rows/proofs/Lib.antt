@@ -14,10 +14,10 @@ pub mod NextSteps
 pub mod OneUse
 pub mod PlaceLaw
 pub mod Residual
+pub mod RowCodes
 pub mod RowFronts
 pub mod RowOrder
 pub mod RowTies
-pub mod RowWords
 pub mod RowsExist
 pub mod TableLaws
 pub mod TaskLaws

@@ -11,27 +11,27 @@ use Rattle.task.specs.Task.{Task}
 use Rattle.placing.specs.declared.Places.{Places}
 use Rattle.summary_rows.specs.RowTask.{TaskOf}
 use Rattle.summary_rows.specs.RowPlaces.{HeadTask, RowPlaces, AtRow, StartPlaces, NextPlaces}
-use Rattle.summary_rows.specs.RowCodes.{rowWords}
-use Rattle.summary_rows.specs.RowsAfter.{Asked, Promised}
+use Rattle.summary_rows.specs.RowCodes.{rowCodes}
+use Rattle.summary_rows.specs.RowsAfter.{RowsNeeds, Promised}
 use Rattle.spec.specs.Table.{mostRows}
 use Rattle.summary_rows.proofs.HeadLaws.{row-ready}
-use Rattle.summary_rows.proofs.RowWords.{row-long}
-use Rattle.summary_rows.proofs.Listing.{Listing, listing-start, listing-more, listing-end, listing-over}
+use Rattle.summary_rows.proofs.RowCodes.{row-long}
+use Rattle.summary_rows.proofs.Listing.{RowsSoFar, listing-start, listing-more, listing-end, listing-over}
 
 pub record State (p : Task) (h n found : ℕ) (before out : List ℕ) (ok : Bool) (ks : List ℕ) (count : ℕ) : Type 0 where
   pub small : count ≤ mostRows
   pub long : length out ≡ length before
   pub row : ok ≡ true → RowPlaces p h (take h ks)
-  pub each : (v q : Rule ℕ) (ts : List (Term ℕ)) → TaskOf v q ts p h → Listing n v q ts h found before out ok ks count
+  pub each : (v q : Rule ℕ) (ts : List (Term ℕ)) → TaskOf v q ts p h → RowsSoFar n v q ts h found before out ok ks count
 
 -- fewer, if not as many
 pub fewer : (count : ℕ) → count ≤ mostRows → (count ≡ mostRows → ⊥) → count < mostRows
 fewer count l n = omega arith
 
-pub head-task : {p : Task} {h found area : ℕ} → Asked p h found area → HeadTask p h
+pub head-task : {p : Task} {h found area : ℕ} → RowsNeeds p h found area → HeadTask p h
 head-task {p} {h} asked = row-ready (asked .rule) (asked .question) (asked .terms) p h (asked .task)
 
-module _ (p : Task) (h n found : ℕ) (before : List ℕ) (asked : Asked p h found (length before)) where
+module _ (p : Task) (h n found : ℕ) (before : List ℕ) (asked : RowsNeeds p h found (length before)) where
   pub state-start : (r : Places) → StartPlaces p h r → State p h n found before before (r .ok) (r .ks) found
   state-start r a = record { small = asked .few; long = refl; row = λ ok. a .found ok .holds; each = λ v q ts w. listing-start n v q ts p h w found before r a }
 
@@ -42,10 +42,10 @@ module _ (p : Task) (h n found : ℕ) (before : List ℕ) (asked : Asked p h fou
     pub room : count < mostRows → 9 * count + 9 ≤ length out
     room l = omega (arith, s .long, asked .room)
 
-    pub state-more : count < mostRows → (out′ : List ℕ) → out′ ≡ paste out (9 * count) (rowWords n (p .target) (take h ks)) 9 → (r : Places) → NextPlaces p h ks r → State p h n found before out′ (r .ok) (r .ks) (count + 1)
+    pub state-more : count < mostRows → (out′ : List ℕ) → out′ ≡ paste out (9 * count) (rowCodes n (p .target) (take h ks)) 9 → (r : Places) → NextPlaces p h ks r → State p h n found before out′ (r .ok) (r .ks) (count + 1)
     state-more l out′ e r a = record {
       small = omega arith;
-      long = ap length e ∙ length-paste out (9 * count) (rowWords n (p .target) (take h ks)) 9 (room l) (omega (arith, row-long n (p .target) (take h ks))) ∙ s .long;
+      long = ap length e ∙ length-paste out (9 * count) (rowCodes n (p .target) (take h ks)) 9 (room l) (omega (arith, row-long n (p .target) (take h ks))) ∙ s .long;
       row = λ ok. a .found ok .holds .row;
       each = λ v q ts w. listing-more n v q ts p h w found before out ks count (omega (arith, asked .room)) (s .each v q ts w) out′ e r a;
     }

@@ -10,7 +10,7 @@ use lib.Seq.{length-take-le, take-set-le, take-take, getD-take}
 use Rattle.spec.specs.Order.{ListBefore, First}
 use Rattle.task.specs.Task.{Task}
 use Rattle.placing.specs.declared.Places.{Places}
-use Rattle.summary_rows.specs.RowPlaces.{HeadTask, RowPlaces, LaterPlaces, PlacesWith, GoesOn, NextPlace}
+use Rattle.summary_rows.specs.RowPlaces.{HeadTask, RowPlaces, LaterPlaces, PlacesWith, RowGoesOn, NextPlace}
 use Rattle.summary_rows.proofs.Fronts.{front-same, front-split, front-decides, front-last, front-put, split-later}
 use Rattle.summary_rows.proofs.RowFronts.{goes-on}
 
@@ -38,7 +38,7 @@ module _ (p : Task) (h : ℕ) (ready : HeadTask p h) (ks : List ℕ) (long : len
     kept-same = take-take j h ks (omega arith)
 
     -- a row after ks that has its first j places is further on at j, since those that have its first j + 1 places are gone
-    further : (js : List ℕ) → RowPlaces p h js → take j (take h ks) ≡ take j js → ListBefore _<_ (drop j (take h ks)) (drop j js) → GoesOn p h j ks from (getD js j 0)
+    further : (js : List ℕ) → RowPlaces p h js → take j (take h ks) ≡ take j js → ListBefore _<_ (drop j (take h ks)) (drop j js) → RowGoesOn p h j ks from (getD js j 0)
     unfolding Gone
     further js y e b = ⊎-elim
         (λ l. goes-on p h j ks js from y low (sym e ∙ kept-same) (omega (arith, getD-take h ks j 0 low)))
@@ -55,7 +55,7 @@ module _ (p : Task) (h : ℕ) (ready : HeadTask p h) (ks : List ℕ) (long : len
         abbrev k : ℕ
         k = place .found ok .0
 
-        least-place : First (GoesOn p h j ks from) _<_ k
+        least-place : First (RowGoesOn p h j ks from) _<_ k
         least-place = place .found ok .2
 
         put : take (j + 1) (r .ks) ≡ take j ks ++ (k ∷ [])

@@ -12,30 +12,30 @@ use Rattle.task.specs.Task.{Task, goals, targets, lastOf, Agrees, Completes, do
 use Rattle.task.specs.Mapped.{useOf, Mapped}
 
 -- under v the source subgoal i becomes the target k
-pub record Stands (p : Task) (v : ℕ → ℕ) (i k : ℕ) : Type 0 where
+pub record StandsAt (p : Task) (v : ℕ → ℕ) (i k : ℕ) : Type 0 where
   pub within : k < targets p
   pub agrees : Agrees p v i k
 
 -- under v the source subgoals from at on become the targets l
 abbrev pub StandFrom : Task → ℕ → (ℕ → ℕ) → List ℕ → Type 0
-StandFrom p at v l = (i : ℕ) → i < length l → Stands p v (at + i) (getD l i 0)
+StandFrom p at v l = (i : ℕ) → i < length l → StandsAt p v (at + i) (getD l i 0)
 
 module _ (p : Task) (v : ℕ → ℕ) where
-  pub stand-at : (l : List ℕ) → StandFrom p 0 v l → (i : ℕ) → i < length l → Stands p v i (getD l i 0)
+  pub stand-at : (l : List ℕ) → StandFrom p 0 v l → (i : ℕ) → i < length l → StandsAt p v i (getD l i 0)
   stand-at l s i h = let e : 0 + i ≡ i = omega arith in rw e at (s i h)
 
   pub stand-drop : (j : ℕ) (l : List ℕ) → StandFrom p 0 v l → StandFrom p j v (drop j l)
   stand-drop j l s i h = rw (getD-drop j l i 0) (stand-at l s (j + i) (omega (arith, length-drop j l)))
 
-  pub stand-join : (a l : List ℕ) → ((i : ℕ) → i < length a → Stands p v i (getD a i 0)) → StandFrom p (length a) v l → StandFrom p 0 v (a ++ l)
+  pub stand-join : (a l : List ℕ) → ((i : ℕ) → i < length a → StandsAt p v i (getD a i 0)) → StandFrom p (length a) v l → StandFrom p 0 v (a ++ l)
   stand-join a l s t i h = go (decLt i (length a))
     where
-      go : Dec (i < length a) → Stands p v (0 + i) (getD (a ++ l) i 0)
+      go : Dec (i < length a) → StandsAt p v (0 + i) (getD (a ++ l) i 0)
       go (yes o) = let e : 0 + i ≡ i = omega arith in rw (e, List·getD-append a l 0 i o) (s i o)
       go (no o) =
           let e : 0 + i ≡ length a + (i - length a) = omega arith in
           let f : i ≡ length a + (i - length a) = omega arith in
-          rw e (subst (λ n. Stands p v (length a + (i - length a)) (getD (a ++ l) n 0)) (sym f) (rw (getD-append-add a l (i - length a) 0) (t (i - length a) (omega (arith, length-append a l)))))
+          rw e (subst (λ n. StandsAt p v (length a + (i - length a)) (getD (a ++ l) n 0)) (sym f) (rw (getD-append-add a l (i - length a) 0) (t (i - length a) (omega (arith, length-append a l)))))
 
 module _ (p : Task) (oneUse : (i : ℕ) → lastOf p i ≡ 0) where
   use-first : (i : ℕ) → useOf p i ≡ 0
@@ -65,7 +65,7 @@ module _ (p : Task) (oneUse : (i : ℕ) → lastOf p i ≡ 0) where
   stand-completes zero at v (k ∷ l) e s = let z : ⊥ = omega arith in absurd z
   stand-completes (suc n) at v [] e s = let z : ⊥ = omega arith in absurd z
   stand-completes (suc n) at v (k ∷ l) e s =
-      let here : Stands p v at k = (let q : at + 0 ≡ at = omega arith in rw q at (s 0 (omega arith))) in
+      let here : StandsAt p v at k = (let q : at + 0 ≡ at = omega arith in rw q at (s 0 (omega arith))) in
       put {w = v} (here .within) (here .agrees) record { stays = λ z x. refl; shared = λ x h. refl }
       (stand-completes n (suc at) v l (omega arith) (λ i h. let q : at + suc i ≡ suc at + i = omega arith in rw q at (s (suc i) (omega arith))))
 
@@ -85,5 +85,5 @@ module _ (p : Task) (oneUse : (i : ℕ) → lastOf p i ≡ 0) where
     shared = λ u w x h. refl;
     given = λ x n. absurd (n refl);
     long = e;
-    lands = λ i h. let z : 0 + i ≡ i = omega arith in let o : i < length l = omega arith in let w : Stands p v i (getD l i 0) = (rw z at (s i o)) in record { within = w .within; agrees = w .agrees };
+    lands = λ i h. let z : 0 + i ≡ i = omega arith in let o : i < length l = omega arith in let w : StandsAt p v i (getD l i 0) = (rw z at (s i o)) in record { within = w .within; agrees = w .agrees };
   }

@@ -6,9 +6,9 @@ use native.Mathlib.Omega.{arith}
 use lib.ListN.{length, getD, take, drop, length-append, take-append-drop, List·getD-append}
 use lib.Seq.{take-at, getD-take, length-take-le}
 use Rattle.task.specs.Task.{Task, goals}
-use Rattle.summary_rows.specs.RowPlaces.{HeadTask, RowPlaces, RowFront, AtFront, GoesOn}
+use Rattle.summary_rows.specs.RowPlaces.{HeadTask, RowPlaces, RowFront, AtFront, RowGoesOn}
 use Rattle.summary_rows.proofs.Fronts.{front-last}
-use Rattle.summary_rows.proofs.OneUse.{Stands, StandFrom, stand-at, mapped-stand}
+use Rattle.summary_rows.proofs.OneUse.{StandsAt, StandFrom, stand-at, mapped-stand}
 
 module _ (p : Task) (h : ℕ) (ready : HeadTask p h) (js : List ℕ) (y : RowPlaces p h js) where
   abbrev whole : List ℕ
@@ -24,7 +24,7 @@ module _ (p : Task) (h : ℕ) (ready : HeadTask p h) (js : List ℕ) (y : RowPla
   unfolding values
   whole-stands = mapped-stand p (ready .oneUse) whole (y .mapped) .2
 
-  pub row-stands : (i : ℕ) → i < h → Stands p values i (getD js i 0)
+  pub row-stands : (i : ℕ) → i < h → StandsAt p values i (getD js i 0)
   row-stands i l = rw (List·getD-append js (y .rest) 0 i (omega (arith, y .long))) at (stand-at p values whole whole-stands i (omega (arith, length-append js (y .rest), y .long)))
 
 -- any front of a row is one
@@ -32,7 +32,7 @@ pub row-front : (p : Task) (h : ℕ) (js : List ℕ) → RowPlaces p h js → (n
 row-front p h js y n = record { more = drop n js; row = subst (RowPlaces p h) (sym (take-append-drop n js)) y }
 
 -- the next place of a row that begins so
-pub goes-on : (p : Task) (h j : ℕ) (ks js : List ℕ) (from : ℕ) → RowPlaces p h js → j < h → take j js ≡ take j ks → from ≤ getD js j 0 → GoesOn p h j ks from (getD js j 0)
+pub goes-on : (p : Task) (h j : ℕ) (ks js : List ℕ) (from : ℕ) → RowPlaces p h js → j < h → take j js ≡ take j ks → from ≤ getD js j 0 → RowGoesOn p h j ks from (getD js j 0)
 goes-on p h j ks js from y low e l = record { later = l; front = subst (RowFront p h) (front-last js j (omega (arith, y .long)) ∙ ap (λ m. m ++ (getD js j 0 ∷ [])) e) (row-front p h js y (j + 1)) }
 
 -- where ks begins with the front of a row
@@ -46,7 +46,7 @@ module _ (p : Task) (h j : ℕ) (ks : List ℕ) (long : length ks ≡ 96) (at : 
   pub front-begins : take j front-row ≡ take j ks
   front-begins = take-at (take j ks) (at .front .more) j front-long
 
-  pub front-stands : (i : ℕ) → i < j → (v : ℕ → ℕ) × Stands p v i (getD ks i 0)
+  pub front-stands : (i : ℕ) → i < j → (v : ℕ → ℕ) × StandsAt p v i (getD ks i 0)
   front-stands i l = (
     values p h (at .task) front-row (at .front .row),
     rw (List·getD-append (take j ks) (at .front .more) 0 i (omega (arith, front-long)), getD-take j ks i 0 l) at (row-stands p h (at .task) front-row (at .front .row) i (omega (arith, at .few))),

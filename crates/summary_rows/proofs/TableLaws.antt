@@ -14,8 +14,8 @@ use Rattle.spec.proofs.Decided.Sound.{AllSafe}
 use Rattle.spec.specs.Order.{RowBefore}
 use Rattle.spec.proofs.Lists.Enumerate.{Enumerates}
 use Rattle.spec.proofs.Decided.Rows.{allRows}
-use Rattle.codes.specs.Code.{termCode, wordsOf}
-use Rattle.codes.proofs.Padded.{words-length, words-append}
+use Rattle.codes.specs.Code.{termCode, codesOf}
+use Rattle.codes.proofs.Padded.{codes-length, codes-append}
 use Rattle.summary_rows.specs.RowsAfter.{RowsAfter}
 use Rattle.spec.specs.Table.{mostRows}
 use Rattle.summary_rows.specs.Tables.{RowTo, TableTo}
@@ -24,30 +24,30 @@ use Rattle.summary_rows.proofs.AllRows.{rows-none, rows-skip, rows-more
 
 module _ (s : Summaries) (q : Rule ℕ) (before : List ℕ) where
   pub table-none : TableTo s q 0 before before 0
-  table-none = record { rows = []; all = rows-none s q; counted = refl; few = omega arith; words = refl }
+  table-none = record { rows = []; all = rows-none s q; counted = refl; few = omega arith; codes = refl }
 
   pub table-skip : (n : ℕ) (out : List ℕ) (count : ℕ) → summary s (suc n) ≡ none → TableTo s q n before out count → TableTo s q (suc n) before out count
-  table-skip n out count e t = record { rows = t .rows; all = rows-skip s q n (t .rows) e (t .all); counted = t .counted; few = t .few; words = t .words }
+  table-skip n out count e t = record { rows = t .rows; all = rows-skip s q n (t .rows) e (t .all); counted = t .counted; few = t .few; codes = t .codes }
 
   module _ (n : ℕ) (out : List ℕ) (count : ℕ) (t : TableTo s q n before out count) where
-    long : length (wordsOf termCode (t .rows)) ≡ 9 * count
-    long = omega (arith, words-length termCode (t .rows), t .counted)
+    long : length (codesOf termCode (t .rows)) ≡ 9 * count
+    long = omega (arith, codes-length termCode (t .rows), t .counted)
 
-    kept : take (9 * count) out ≡ wordsOf termCode (t .rows)
-    kept = ap (take (9 * count)) (t .words) ∙ take-at (wordsOf termCode (t .rows)) (drop (9 * count) before) (9 * count) long
+    kept : take (9 * count) out ≡ codesOf termCode (t .rows)
+    kept = ap (take (9 * count)) (t .codes) ∙ take-at (codesOf termCode (t .rows)) (drop (9 * count) before) (9 * count) long
 
     behind : (m : ℕ) → count ≤ m → drop (9 * m) out ≡ drop (9 * m) before
     behind m h =
-        let k : 9 * m ≡ length (wordsOf termCode (t .rows)) + 9 * (m - count) = omega (arith, long) in
+        let k : 9 * m ≡ length (codesOf termCode (t .rows)) + 9 * (m - count) = omega (arith, long) in
         let l : 9 * count + 9 * (m - count) ≡ 9 * m = omega arith in
-        ap₂ drop k (t .words) ∙ drop-append-add (wordsOf termCode (t .rows)) (drop (9 * count) before) (9 * (m - count)) ∙ drop-drop (9 * (m - count)) (9 * count) before ∙ ap (λ i. drop i before) l
+        ap₂ drop k (t .codes) ∙ drop-append-add (codesOf termCode (t .rows)) (drop (9 * count) before) (9 * (m - count)) ∙ drop-drop (9 * (m - count)) (9 * count) before ∙ ap (λ i. drop i before) l
 
     -- rows written behind them
-    more-words : (l : List (Subgoal (Term ℕ))) (m : ℕ) → count ≤ m → take (9 * count) out ++ (wordsOf termCode l ++ drop (9 * m) out) ≡ wordsOf termCode (t .rows ++ l) ++ drop (9 * m) before
-    more-words l m h =
-        ap₂ (λ x y. x ++ (wordsOf termCode l ++ y)) kept (behind m h)
-        ∙ sym (append-assoc (wordsOf termCode (t .rows)) (wordsOf termCode l) (drop (9 * m) before))
-        ∙ ap (λ x. x ++ drop (9 * m) before) (sym (words-append termCode (t .rows) l))
+    more-codes : (l : List (Subgoal (Term ℕ))) (m : ℕ) → count ≤ m → take (9 * count) out ++ (codesOf termCode l ++ drop (9 * m) out) ≡ codesOf termCode (t .rows ++ l) ++ drop (9 * m) before
+    more-codes l m h =
+        ap₂ (λ x y. x ++ (codesOf termCode l ++ y)) kept (behind m h)
+        ∙ sym (append-assoc (codesOf termCode (t .rows)) (codesOf termCode l) (drop (9 * m) before))
+        ∙ ap (λ x. x ++ drop (9 * m) before) (sym (codes-append termCode (t .rows) l))
 
     module _ (v : Rule ℕ) (e : summary s (suc n) ≡ some v) (after : List ℕ) (r : Tally) (a : RowsAfter (suc n) v q count out after r) where
       both : Enumerates (RowTo s q (suc n)) RowBefore (t .rows ++ a .rows)
@@ -59,7 +59,7 @@ module _ (s : Summaries) (q : Rule ℕ) (before : List ℕ) where
         all = both;
         counted = more ∙ omega (arith, t .counted, length-append (t .rows) (a .rows));
         few = omega (arith, more, room);
-        words = a .words ∙ ap (λ l. take (9 * count) out ++ (wordsOf termCode l ++ drop (9 * r .count) out)) taken ∙ more-words (a .rows) (r .count) (omega (arith, more));
+        codes = a .codes ∙ ap (λ l. take (9 * count) out ++ (codesOf termCode l ++ drop (9 * r .count) out)) taken ∙ more-codes (a .rows) (r .count) (omega (arith, more));
       }
         where
           room : count + length (a .rows) ≤ mostRows
@@ -92,14 +92,14 @@ module _ (s : Summaries) (q : Rule ℕ) (before : List ℕ) where
             ∙ take-append-add (t .rows) (a .rows ++ later .0) (mostRows - count)
             ∙ ap (λ l. t .rows ++ l) (take-append-le (mostRows - count) (a .rows) (later .0) (omega (arith, too-many)))
 
-        pub over-words : after ≡ wordsOf termCode (take mostRows (allRows s q)) ++ drop (9 * mostRows) before
-        over-words =
-            a .words
-            ∙ ap (λ m. take (9 * count) out ++ (wordsOf termCode (take (mostRows - count) (a .rows)) ++ drop (9 * m) out)) full
-            ∙ more-words (take (mostRows - count) (a .rows)) mostRows (t .few)
-            ∙ ap (λ l. wordsOf termCode l ++ drop (9 * mostRows) before) (sym first-rows)
+        pub over-codes : after ≡ codesOf termCode (take mostRows (allRows s q)) ++ drop (9 * mostRows) before
+        over-codes =
+            a .codes
+            ∙ ap (λ m. take (9 * count) out ++ (codesOf termCode (take (mostRows - count) (a .rows)) ++ drop (9 * m) out)) full
+            ∙ more-codes (take (mostRows - count) (a .rows)) mostRows (t .few)
+            ∙ ap (λ l. codesOf termCode l ++ drop (9 * mostRows) before) (sym first-rows)
 
-  pub table-all : AllSafe s → (out : List ℕ) (count : ℕ) → TableTo s q (length s) before out count → (count ≡ length (allRows s q)) × (length (allRows s q) ≤ mostRows) × (out ≡ wordsOf termCode (allRows s q) ++ drop (9 * count) before)
+  pub table-all : AllSafe s → (out : List ℕ) (count : ℕ) → TableTo s q (length s) before out count → (count ≡ length (allRows s q)) × (length (allRows s q) ≤ mostRows) × (out ≡ codesOf termCode (allRows s q) ++ drop (9 * count) before)
   table-all safe out count t =
       let same = rows-all s q safe (t .rows) (t .all) in
-      (t .counted ∙ ap length same, omega (arith, t .counted, t .few, ap length same), t .words ∙ ap (λ l. wordsOf termCode l ++ drop (9 * count) before) same)
+      (t .counted ∙ ap length same, omega (arith, t .counted, t .few, ap length same), t .codes ∙ ap (λ l. codesOf termCode l ++ drop (9 * count) before) same)

@@ -1,4 +1,4 @@
--- The task of a summary's rows fits the search, and its words fit each other.
+-- The task of a summary's rows fits the search, and its codes fit each other.
 use mathlib.Core.Path.{_≡_, refl, sym, ap, _∙_, subst}
 use mathlib.Core.Logic.{_⊎_, inl, inr, ⊎-elim, _↔_}
 use mathlib.Core.List.{List, [], _++_, map, List·Memᴰ·eq-of-singleton, List·Memᴰ·append-cases, Memᴰ·of-map}
@@ -10,7 +10,7 @@ use Rattle.spec.specs.RuleLayout.{TermWithin}
 use Rattle.spec.specs.BookLayout.{Arities}
 use Rattle.task.specs.Task.{Task}
 use Rattle.task.specs.Mapped.{Mapped}
-use Rattle.search_meaning.specs.Coded.{In, Small, Sent}
+use Rattle.search_meaning.specs.Coded.{TermIn, SmallTask, Sent}
 use Rattle.search_meaning.specs.Codings.{termCoding, RuleSource}
 use Rattle.choice_theory.specs.Lists.{getD-in}
 use Rattle.search_meaning.proofs.Read.{read-term, term-solid}
@@ -35,19 +35,19 @@ module _ (v q : Rule ℕ) (ts : List (Term ℕ)) (p : Task) (h : ℕ) (w : TaskO
   room g m = ⊎-elim (λ a. rw (ap (λ (k : Subgoal (Term ℕ)). length (k .terms)) (sym (a .2))) (omega arith)) (λ i. fit-room (w .arities) (w .relations) g (w .summary .fit g i)) (parts (v .head) (v .body) g m)
 
   -- the terms of a list of terms alone and a body
-  in-parts : (us : List (Term ℕ)) (body : List (Subgoal (Term ℕ))) (P : Term ℕ → Type 0) → ((t : Term ℕ) → t ∈ us → P t) → ((t : Term ℕ) → In t body → P t) → (t : Term ℕ) → In t (map alone us ++ body) → P t
+  in-parts : (us : List (Term ℕ)) (body : List (Subgoal (Term ℕ))) (P : Term ℕ → Type 0) → ((t : Term ℕ) → t ∈ us → P t) → ((t : Term ℕ) → TermIn t body → P t) → (t : Term ℕ) → TermIn t (map alone us ++ body) → P t
   in-parts us body P first then t i = ⊎-elim
       (λ a. subst P (sym (List·Memᴰ·eq-of-singleton (subst (λ (k : Subgoal (Term ℕ)). t ∈ k .terms) (sym (a .2)) (i .2)))) (first (a .0) (a .1)))
       (λ j. then t (i .0, j, i .2))
       (parts us body (i .0) (i .1))
 
-  source-within : (t : Term ℕ) → In t (placed v) → TermWithin t
+  source-within : (t : Term ℕ) → TermIn t (placed v) → TermWithin t
   source-within = in-parts (v .head) (v .body) TermWithin (w .summary .head) (λ t i. w .summary .body (i .0) (i .1) t (i .2))
 
-  question-within : (t : Term ℕ) → In t (q .body) → TermWithin t
+  question-within : (t : Term ℕ) → TermIn t (q .body) → TermWithin t
   question-within t i = w .question .body (i .0) (i .1) t (i .2)
 
-  target-within : (t : Term ℕ) → In t (onto ts q) → TermWithin t
+  target-within : (t : Term ℕ) → TermIn t (onto ts q) → TermWithin t
   target-within = in-parts ts (q .body) TermWithin (λ t m. question-within t (w .terms .sound t m)) question-within
 
   pub alike : (g k : Subgoal (Term ℕ)) → g ∈ placed v → k ∈ onto ts q → g .relation ≡ k .relation → length (g .terms) ≡ length (k .terms)
@@ -74,7 +74,7 @@ module _ (v q : Rule ℕ) (ts : List (Term ℕ)) (p : Task) (h : ℕ) (w : TaskO
 
   -- The places that the task asks for are those of the values over terms.
   pub row-sent : (l : List ℕ) → Mapped p [] l ↔ Sent termCoding (λ x. x) (placed v) (onto ts q) [] l
-  row-sent l = subst (λ t. Mapped t [] l ↔ Sent termCoding (λ x. x) (placed v) (onto ts q) [] l) (sym (w .words)) (slots-sent termCoding (placed v) (replicate (length (placed v)) 0) (onto ts q) (replicate (length (onto ts q)) 0) [] source l)
+  row-sent l = subst (λ t. Mapped t [] l ↔ Sent termCoding (λ x. x) (placed v) (onto ts q) [] l) (sym (w .codes)) (slots-sent termCoding (placed v) (replicate (length (placed v)) 0) (onto ts q) (replicate (length (onto ts q)) 0) [] source l)
 
   pub placed-long : length (placed v) ≡ h + length (v .body)
   placed-long = length-append (map alone (v .head)) (v .body) ∙ ap (λ n. n + length (v .body)) (length-map (v .head) alone ∙ w .long)
@@ -82,7 +82,7 @@ module _ (v q : Rule ℕ) (ts : List (Term ℕ)) (p : Task) (h : ℕ) (w : TaskO
   pub onto-long : length (onto ts q) ≡ length ts + length (q .body)
   onto-long = length-append (map alone ts) (q .body) ∙ ap (λ n. n + length (q .body)) (length-map ts alone)
 
-  pub small : Small termCoding (placed v) (replicate (length (placed v)) 0) (onto ts q) (replicate (length (onto ts q)) 0)
+  pub small : SmallTask termCoding (placed v) (replicate (length (placed v)) 0) (onto ts q) (replicate (length (onto ts q)) 0)
   small = record {
     few = omega (arith, placed-long, w .long, w .summary .short, w .summary .few);
     many = omega (arith, onto-long, w .few, w .question .few);

@@ -5,7 +5,7 @@ use Prim.Native.Nat.{ℕ, zero, suc, _+_, _*_, _<_, _≤_}
 use lib.ListN.{length, getD, set, replicate}
 use lib.Dec.{ltb}
 
--- the bindings with the word y for the source term x, if that is a slot
+-- the bindings with the code y for the source term x, if that is a slot
 abbrev pub binding : List ℕ → ℕ → ℕ → List ℕ
 binding g x y = cond (ltb x 64) (set g x y) g
 
@@ -14,7 +14,7 @@ unfoldable pub fixing : List ℕ → List ℕ → List ℕ → ℕ → List ℕ
 fixing source target ks zero = replicate 64 0
 fixing source target ks (suc j) = binding (fixing source target ks j) (getD source (9 * j + 1) 0) (getD target (9 * getD ks j 0 + 1) 0)
 
--- the first j of the targets ks have their words; at most 8, "a head (0 to 8 terms)"
+-- the first j of the targets ks have their codes; at most 8, "a head (0 to 8 terms)"
 pub record InReach (target ks : List ℕ) (j : ℕ) : Type 0 where
   pub few : j ≤ 8
   pub targets : (i : ℕ) → i < j → 9 * getD ks i 0 + 1 < length target

@@ -1,9 +1,9 @@
--- The words that are written for a row.
+-- The codes that are written for a row.
 use mathlib.Core.List.{List, _∷_, map}
 use Prim.Native.Nat.{ℕ, _+_, _*_}
 use lib.ListN.{getD}
 use Rattle.codes.specs.Code.{padded}
 
--- the words of a row: its summary's number, and the words of the terms that are the targets js
-unfoldable pub rowWords : ℕ → List ℕ → List ℕ → List ℕ
-rowWords number target js = number ∷ padded 8 (map (λ k. getD target (9 * k + 1) 0) js)
+-- the codes of a row: its summary's number, and the codes of the terms that are the targets js
+unfoldable pub rowCodes : ℕ → List ℕ → List ℕ → List ℕ
+rowCodes number target js = number ∷ padded 8 (map (λ k. getD target (9 * k + 1) 0) js)

@@ -84,11 +84,11 @@ pub record Begins (p : Task) (h j : ℕ) (ks : List ℕ) (answer : Bool) : Type 
   pub exactly : (answer ≡ true) ↔ RowFront p h (take j ks)
 
 -- Behind the first j of ks some row has the place k, which is `from` or a later one.
-pub record GoesOn (p : Task) (h j : ℕ) (ks : List ℕ) (from k : ℕ) : Type 0 where
+pub record RowGoesOn (p : Task) (h j : ℕ) (ks : List ℕ) (from k : ℕ) : Type 0 where
   pub later : from ≤ k
   pub front : RowFront p h (take j ks ++ (k ∷ []))
 
 -- The first such place, put behind them, or that there is none.
 pub record NextPlace (p : Task) (h j : ℕ) (ks : List ℕ) (from : ℕ) (r : Places) : Type 0 where
-  pub found : r .ok ≡ true → (k : ℕ) × (r .ks ≡ set ks j k) × First (GoesOn p h j ks from) _<_ k
-  pub none : r .ok ≡ false → (k : ℕ) → GoesOn p h j ks from k → ⊥
+  pub found : r .ok ≡ true → (k : ℕ) × (r .ks ≡ set ks j k) × First (RowGoesOn p h j ks from) _<_ k
+  pub none : r .ok ≡ false → (k : ℕ) → RowGoesOn p h j ks from k → ⊥

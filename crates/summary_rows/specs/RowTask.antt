@@ -9,7 +9,7 @@ use Rattle.spec.proofs.Lists.Enumerate.{Enumerates}
 use Rattle.spec.specs.RuleLayout.{RuleWithin}
 use Rattle.spec.specs.BookLayout.{Arities, questionMost, summaryMost}
 use Rattle.task.specs.Task.{Task}
-use Rattle.search_meaning.specs.Coded.{In, task}
+use Rattle.search_meaning.specs.Coded.{TermIn, task}
 use Rattle.search_meaning.specs.Codings.{slotNaming, termCoding}
 
 -- A place of the head, or a term of the question, as a subgoal of one term. Its relation is no rule's: relations are numbered from 0, and there are at most 32.
@@ -31,9 +31,9 @@ rowTask v q ts = task slotNaming termCoding (placed v) (replicate (length (place
 
 -- The task is that of a sound summary v and a sound question q, over the terms of the question's body in ascending order, each once; the head has h places.
 pub record TaskOf (v q : Rule ℕ) (ts : List (Term ℕ)) (p : Task) (h : ℕ) : Type 0 where
-  pub words : p ≡ rowTask v q ts
+  pub codes : p ≡ rowTask v q ts
   pub long : length (v .head) ≡ h
-  pub terms : Enumerates (λ t. In t (q .body)) TermBefore ts
+  pub terms : Enumerates (λ t. TermIn t (q .body)) TermBefore ts
   -- 12 subgoals of at most 8 terms
   pub few : length ts ≤ 96
   pub arities : List ℕ

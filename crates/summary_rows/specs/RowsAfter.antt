@@ -7,7 +7,7 @@ use lib.ListN.{length, take, drop}
 use Rattle.spec.specs.Words.{Term, con, Subgoal, Rule, Listed, Yields}
 use Rattle.spec.specs.Order.{RowBefore}
 use Rattle.spec.proofs.Lists.Enumerate.{Enumerates}
-use Rattle.codes.specs.Code.{termCode, wordsOf}
+use Rattle.codes.specs.Code.{termCode, codesOf}
 use Rattle.task.specs.Task.{Task}
 use Rattle.summary_rows.specs.RowTask.{TaskOf}
 use Rattle.summary_rows.specs.declared.Tally.{Tally}
@@ -20,16 +20,16 @@ pub record RowBy (n : ℕ) (v q : Rule ℕ) (g : Subgoal (Term ℕ)) : Type 0 wh
   pub yields : Yields con v (Listed (q .body)) (g .terms)
 
 -- After `found` rows stand those of this summary, "sorted", "equal rows once", as far as there is room for 64 in all; whether there are more; how many stand there.
--- A row is nine words. The words before them and after them stay.
+-- A row is nine codes. The codes before them and after them stay.
 pub record RowsAfter (n : ℕ) (v q : Rule ℕ) (found : ℕ) (before after : List ℕ) (r : Tally) : Type 0 where
   pub rows : List (Subgoal (Term ℕ))
   pub all : Enumerates (RowBy n v q) RowBefore rows
   pub over : r .over ≡ ltb mostRows (found + length rows)
   pub count : r .count ≡ found + length (take (mostRows - found) rows)
-  pub words : after ≡ take (9 * found) before ++ (wordsOf termCode (take (mostRows - found) rows) ++ drop (9 * r .count) before)
+  pub codes : after ≡ take (9 * found) before ++ (codesOf termCode (take (mostRows - found) rows) ++ drop (9 * r .count) before)
 
 -- What is asked: the task of some summary and question, at most 64 rows so far, and room for 64.
-pub record Asked (p : Task) (h found area : ℕ) : Type 0 where
+pub record RowsNeeds (p : Task) (h found area : ℕ) : Type 0 where
   pub rule : Rule ℕ
   pub question : Rule ℕ
   pub terms : List (Term ℕ)

@@ -1,12 +1,12 @@
-// The rows of one summary, in order, as words: one after the other, each written behind those before it.
+// The rows of one summary, in order, as codes: one after the other, each written behind those before it.
 ghost use mathlib.Core.Path.{_≡_};
 ghost use Prim.Native.Nat.{_+_, _*_, _<_, _≤_};
 ghost use lib.ListN.{length, getD, take};
 ghost use lib.Seq.{paste};
 ghost use Rattle.task.specs.Task.{posed};
 ghost use Rattle.summary_rows.specs.FixedPlaces.{InReach};
-ghost use Rattle.summary_rows.specs.RowCodes.{rowWords};
-ghost use Rattle.summary_rows.specs.RowsAfter.{Asked, Promised};
+ghost use Rattle.summary_rows.specs.RowCodes.{rowCodes};
+ghost use Rattle.summary_rows.specs.RowsAfter.{RowsNeeds, Promised};
 
 mod row_places; // rows as places of the head
 
@@ -22,11 +22,11 @@ pub struct Tally {
     pub count: usize,
 }
 
-// Word i of a row: its summary's number, the words of its terms, and 1 where they have ended.
-fn row_word(target: &[u64], number: u64, head: usize, ks: [u16; USES_GOALS], i: usize) -> u64
+// Code i of a row: its summary's number, the codes of its terms, and 1 where they have ended.
+fn row_code(target: &[u64], number: u64, head: usize, ks: [u16; USES_GOALS], i: usize) -> u64
     requires { ⌜ InReach (now target) ks head ⌝ }
     requires { ⌜ i < 9 ⌝ }
-    ensures { λ r. ⌜ r ≡ getD (rowWords number (now (target .entry)) (take head ks)) i 0 ⌝ }
+    ensures { λ r. ⌜ r ≡ getD (rowCodes number (now (target .entry)) (take head ks)) i 0 ⌝ }
 {
     if i == 0 {
         return number;
@@ -38,7 +38,7 @@ fn row_word(target: &[u64], number: u64, head: usize, ks: [u16; USES_GOALS], i: 
     1
 }
 
-// A row's nine words, behind `count` rows.
+// A row's nine codes, behind `count` rows.
 fn put_row(
     target: &[u64],
     number: u64,
@@ -49,12 +49,12 @@ fn put_row(
 )
     requires { ⌜ InReach (now target) ks head ⌝ }
     requires { ⌜ 9 * count + 9 ≤ length (now out) ⌝ }
-    ensures { λ _. ⌜ now (out .exit) ≡ paste (now (out .entry)) (9 * count) (rowWords number (now (target .entry)) (take head ks)) 9 ⌝ }
+    ensures { λ _. ⌜ now (out .exit) ≡ paste (now (out .entry)) (9 * count) (rowCodes number (now (target .entry)) (take head ks)) 9 ⌝ }
 {
     let at = SUBGOAL_CODES * count;
     let mut i: usize = 0;
     while i < SUBGOAL_CODES {
-        out[at + i] = row_word(target, number, head, ks, i);
+        out[at + i] = row_code(target, number, head, ks, i);
         i += 1;
     }
 }
@@ -71,7 +71,7 @@ pub fn rows_of(
     found: usize,
     out: &mut [u64],
 ) -> Tally
-    requires { ⌜ Asked (posed (now source) (now widths) (now lasts) (now target) (now own)) head found (length (now out)) ⌝ }
+    requires { ⌜ RowsNeeds (posed (now source) (now widths) (now lasts) (now target) (now own)) head found (length (now out)) ⌝ }
     ensures { λ r. ⌜ Promised (posed (now (source .entry)) (now (widths .entry)) (now (lasts .entry)) (now (target .entry)) (now (own .entry))) head number found (now (out .entry)) (now (out .exit)) r ⌝ }
 {
     let first = first_row(source, widths, lasts, target, own, head);

@@ -16,7 +16,7 @@ use placing::places_from;
 // A source term below this is a slot.
 const SLOT_END: u64 = SLOTS as u64;
 
-// The bindings with a word for a source term, if that is a slot.
+// The bindings with a code for a source term, if that is a slot.
 fn bound(g: [u64; SLOTS], x: u64, y: u64) -> [u64; SLOTS]
     ensures { λ r. ⌜ r ≡ binding g x y ⌝ }
 {

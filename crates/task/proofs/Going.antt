@@ -13,18 +13,18 @@ use Rattle.task.specs.Completion.{Completion}
 use Rattle.task.proofs.Onward.{step, stepped}
 use Rattle.task.proofs.Chain.{completion-mapped, mapped-completion}
 use Rattle.task.specs.Follows.{Follows}
-use Rattle.task.specs.Leads.{Passed, Leads}
+use Rattle.task.specs.Leads.{CarriedOn, Leads}
 
-pub record Going (p : Task) (b ks : List ℕ) (i : ℕ) (g : List ℕ) : Type 0 where
+pub record PlacesFollowed (p : Task) (b ks : List ℕ) (i : ℕ) (g : List ℕ) : Type 0 where
   pub far : i ≤ goals p
   pub to : Mapped p b (take (goals p) ks) → Completion p i g (slice i (goals p) ks)
   pub back : Completion p i g (slice i (goals p) ks) → Mapped p b (take (goals p) ks)
 
 module _ (p : Task) (b ks : List ℕ) where
-  pub going-start : Going p b ks 0 b
+  pub going-start : PlacesFollowed p b ks 0 b
   going-start = record { far = omega arith; to = mapped-completion p b (take (goals p) ks); back = completion-mapped p b (take (goals p) ks) }
 
-  module _ (i : ℕ) (g : List ℕ) (c : Going p b ks i g) where
+  module _ (i : ℕ) (g : List ℕ) (c : PlacesFollowed p b ks i g) where
     -- nothing is left: some values have what is bound there
     pub going-end : goals p ≤ i → Follows p b ks true
     going-end h = record { exactly = ((λ e. c .back (rw empty (record { val = λ x. getD g x 0; extends = λ x f. refl; completes = rw left done }))), λ m. refl) }
@@ -61,7 +61,7 @@ module _ (p : Task) (b ks : List ℕ) where
         pub going-never : r ≡ false → Follows p b ks false
         going-never n = record { exactly = ((λ e. absurd (false≢true e)), λ m. let d = c .to m in let o = goes (d .val) (d .completes) in absurd (s .never n (o .within) (d .val) (d .extends) (o .agrees))) }
 
-        pub going-more : r ≡ true → Going p b ks (i + 1) h
+        pub going-more : r ≡ true → PlacesFollowed p b ks (i + 1) h
         going-more y = rw (add-one i) (record { far = omega arith; to = to; back = back })
           where
             to : Mapped p b (take (goals p) ks) → Completion p (suc i) h (slice (suc i) (goals p) ks)

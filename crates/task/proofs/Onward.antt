@@ -11,7 +11,7 @@ use Rattle.task.proofs.Guess.{Guess, guess-known}
 use Rattle.task.proofs.Crossing.{through, before}
 
 -- every completion puts the source subgoal at somewhere
-pub record Step (p : Task) (at : ℕ) (v : ℕ → ℕ) (js : List ℕ) : Type 0 where
+pub record FirstStep (p : Task) (at : ℕ) (v : ℕ → ℕ) (js : List ℕ) : Type 0 where
   pub k : ℕ
   pub ks : List ℕ
   pub w : ℕ → ℕ
@@ -21,14 +21,14 @@ pub record Step (p : Task) (at : ℕ) (v : ℕ → ℕ) (js : List ℕ) : Type 0
   pub linked : Linked p at v w
   pub rest : Completes p (goals p - suc at) (suc at) w ks
 
-taken : (p : Task) (at : ℕ) (v : ℕ → ℕ) (js : List ℕ) → Completes p (suc (goals p - suc at)) at v js → Step p at v js
+taken : (p : Task) (at : ℕ) (v : ℕ → ℕ) (js : List ℕ) → Completes p (suc (goals p - suc at)) at v js → FirstStep p at v js
 taken p at v js (put i g n s) = record { k = _; ks = _; w = _; is = refl; within = i; agrees = g; linked = n; rest = s }
 
 module _ (p : Task) (at : ℕ) (more : at < goals p) where
   again : goals p - at ≡ suc (goals p - suc at)
   again = omega arith
 
-  pub step : (v : ℕ → ℕ) (js : List ℕ) → Completes p (goals p - at) at v js → Step p at v js
+  pub step : (v : ℕ → ℕ) (js : List ℕ) → Completes p (goals p - at) at v js → FirstStep p at v js
   step v js q = taken p at v js (rw again at q)
 
   -- a target that this subgoal becomes, and the rest

@@ -38,7 +38,7 @@ module _ (p : Task) (b : List ℕ) (i k : ℕ) where
   pub leads-relation : {h : List ℕ} → (targetRelation p k ≡ sourceRelation p i → ⊥) → Leads p b i k false h
   leads-relation {h} f = fails h (λ l v e a. f (a .relation))
 
-  -- a term that stands for another word than the target's
+  -- a term that stands for another code than the target's
   pub leads-unlike : (a : ℕ) (g h : List ℕ) → Guessed p b i k a g → a < widthOf p i → (stood g (sourceTerm p i a) ≡ 0 → ⊥) → (stood g (sourceTerm p i a) ≡ targetTerm p k a → ⊥) → Leads p b i k false h
   leads-unlike a g h c o n f = fails h (λ l v e y. f (sym (stood-value g v (sourceTerm p i a) (guess-known p b i k a g (c .new) (c .guess) v (sourceTerm p i a) (λ j z. y .terms j (omega arith)) (e (sourceTerm p i a))) n) ∙ y .terms a o))
 

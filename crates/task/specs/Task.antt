@@ -1,6 +1,6 @@
 -- A task of placing: each of some source subgoals is to become one of some target subgoals, under one value for each of the source's variables.
--- A subgoal is nine words: its relation, then eight terms, of which the first few count.
--- A source term below 64 is a slot, and stands for a variable: slots 0 to 31 are shared, 32 to 63 are the current use's own. Any other word stands for itself.
+-- A subgoal is nine codes: its relation, then eight terms, of which the first few count.
+-- A source term below 64 is a slot, and stands for a variable: slots 0 to 31 are shared, 32 to 63 are the current use's own. Any other code stands for itself.
 use mathlib.Core.Path.{_≡_}
 use mathlib.Core.Bool.{Bool, true, false, cond}
 use mathlib.Core.List.{List, [], _∷_}
@@ -9,13 +9,13 @@ use lib.ListN.{length, getD}
 use lib.Dec.{ltb}
 
 pub record Task : Type 0 where
-  -- the words of the source subgoals
+  -- the codes of the source subgoals
   pub source : List ℕ
   -- for each source subgoal, how many of its terms count
   pub widths : List ℕ
   -- for each source subgoal, not 0 if it is the last of its use
   pub lasts : List ℕ
-  -- the words of the targets
+  -- the codes of the targets
   pub target : List ℕ
   -- for each target, the row that it belongs to
   pub own : List ℕ
@@ -64,7 +64,7 @@ pub record Sized (p : Task) : Type 0 where
   pub widths : (i : ℕ) → widthOf p i ≤ 8
   -- rows are members of sets in one word
   pub rows : (k : ℕ) → rowOf p k < 64
-  -- 0 is no word of a target, since a slot that holds 0 is not bound
+  -- 0 is no code of a target, since a slot that holds 0 is not bound
   pub solid : (k a : ℕ) → k < targets p → a < 8 → targetTerm p k a ≡ 0 → ⊥
 
 -- What a source term becomes, where v says the slots' values.
@@ -86,6 +86,6 @@ pub data Completes (p : Task) : ℕ → ℕ → (ℕ → ℕ) → List ℕ → T
   done : {at : ℕ} {v : ℕ → ℕ} → Completes p zero at v []
   put : {n at k : ℕ} {v w : ℕ → ℕ} {l : List ℕ} → k < targets p → Agrees p v at k → Linked p at v w → Completes p n (suc at) w l → Completes p (suc n) at v (k ∷ l)
 
--- Bindings: a word for each slot, 0 where the slot is not bound. v gives each bound slot its word.
+-- Bindings: a code for each slot, 0 where the slot is not bound. v gives each bound slot its code.
 abbrev pub Extends : List ℕ → (ℕ → ℕ) → Type 0
 Extends b v = (x : ℕ) → (getD b x 0 ≡ 0 → ⊥) → v x ≡ getD b x 0

@@ -13,14 +13,14 @@ use Rattle.spec.specs.LeftOut.{SameButLeftOut}
 use Rattle.spec.specs.BookLayout.{SoundBook}
 use Rattle.spec.proofs.Bytes.BookUnique.{book-unique}
 use Rattle.spec.proofs.Bytes.Refused.{sound-unrefused}
-use Rattle.spec.specs.Table.{Refused, one, read, nine, ten, Fault9, Fault10}
+use Rattle.spec.specs.Table.{RewriterRefusal, one, read, nine, ten, Fault9, Fault10}
 use Rattle.spec.specs.Given.{answerBytes, Given, written}
 use Rattle.outcomes.proofs.Demand.{given-same, given-fewer, given-few, refused-all, left-out-nine, left-out-ten, moved-back}
 use Rattle.spec.specs.Rewriting.{Rewriting}
 use Rattle.spec.specs.Refusals.{ofBook}
 use Rattle.spec.specs.declared.Reason.{Reason}
 use Rattle.spec.specs.declared.Outcome.{Outcome}
-use Rattle.spec.specs.declared.Outcome.the-variants.{Done, Refused as RefusedWith}
+use Rattle.spec.specs.declared.Outcome.the-variants.{Done, Refused}
 use Rattle.rewriter.proofs.Unique.{rewriting-once}
 
 pub gave : {book a a₁ w w₁ : List ℕ} {n m : ℕ} → Rewriting book a a₁ w w₁ (Done n m) → Gave book a₁ n
@@ -36,10 +36,10 @@ gave {a = a} {a₁} {n = n} x = let g = x .given in record {
 }
 
 -- "where the refusal is 10, every one of any length does"
-pub gave-none : {book a a₁ w w₁ : List ℕ} → Rewriting book a a₁ w w₁ (RefusedWith (ofBook 10)) → (b : Book) → SoundBook book b → (p : Rule ℕ) → OverAdmitted (admittedOf b) p → DiffersSomewhere b p
+pub gave-none : {book a a₁ w w₁ : List ℕ} → Rewriting book a a₁ w w₁ (Refused (ofBook 10)) → (b : Book) → SoundBook book b → (p : Rule ℕ) → OverAdmitted (admittedOf b) p → DiffersSomewhere b p
 gave-none {book} {a} {w = w} x b s = none (x .refused)
   where
-    none : {answer witness : ℕ} → Refused book answer witness (ofBook 10) → (p : Rule ℕ) → OverAdmitted (admittedOf b) p → DiffersSomewhere b p
+    none : {answer witness : ℕ} → RewriterRefusal book answer witness (ofBook 10) → (p : Rule ℕ) → OverAdmitted (admittedOf b) p → DiffersSomewhere b p
     none (read room r) = absurd (sound-unrefused s r)
     none (ten room v t few never) = refused-all b s (subst (λ c. Fault10 (admittedOf c) (c .question)) (book-unique t s) never)
 
@@ -52,7 +52,7 @@ module _ {book other : List ℕ} {b c : Book} (sound : SoundBook book b) (also :
   few-other : {answer witness : ℕ} (g : Given book answer witness) → Fault9 (admittedOf c) (c .question) → ⊥
   few-other {answer} {witness} g f = g .few (subst (λ v. Fault9 (admittedOf v) (v .question)) (sym (book-unique (g .sound) sound)) (moved-back sound also answer witness question need left Fault9 f))
 
-  refused-other : {answer witness : ℕ} {r : Reason} → Refused book answer witness r → Refused other answer witness r
+  refused-other : {answer witness : ℕ} {r : Reason} → RewriterRefusal book answer witness r → RewriterRefusal other answer witness r
   refused-other (one f) = one f
   refused-other (read room r) = absurd (sound-unrefused sound r)
   refused-other {answer} {witness} (nine room v s f) = left-out-nine sound also answer witness question need left (nine room v s f)
@@ -69,7 +69,7 @@ module _ {book other : List ℕ} {b c : Book} (sound : SoundBook book b) (also :
         answer-long = x .answer-long ∙ ap (λ q. length (answerBytes q (g .result))) e;
         witness-long = x .witness-long;
       }
-  says-other (RefusedWith r) a a₁ w w₁ x = record { refused = refused-other (x .refused); answer-stays = x .answer-stays; witness-stays = x .witness-stays }
+  says-other (Refused r) a a₁ w w₁ x = record { refused = refused-other (x .refused); answer-stays = x .answer-stays; witness-stays = x .witness-stays }
 
   pub left-out-alike : (r r′ : Outcome) (a a₁ a₂ w w₁ w₂ : List ℕ) → Rewriting book a a₁ w w₁ r → Rewriting other a a₂ w w₂ r′ → (r ≡ r′) × (a₁ ≡ a₂) × (w₁ ≡ w₂)
   left-out-alike r r′ a a₁ a₂ w w₁ w₂ x y = rewriting-once other a w r r′ a₁ a₂ w₁ w₂ (says-other r a a₁ w w₁ x) y

@@ -15,7 +15,7 @@ use Rattle.outcomes.proofs.Witnessed.{witness-for}
 use Rattle.outcomes.proofs.AsRule.{passes-only}
 
 -- "What it says yes to yields the same rows as the question on all finite facts where the summaries hold what their definitions yield"
-pub record SameRows (book rewriting : List ℕ) : Type 1 where
+pub record YesSameRows (book rewriting : List ℕ) : Type 1 where
   pub value : Book
   pub sound : SoundBook book value
   pub rule : Rule ℕ
@@ -23,7 +23,7 @@ pub record SameRows (book rewriting : List ℕ) : Type 1 where
   pub same : (facts : List (Subgoal ℕ)) → AllFit (value .arities) facts → (held : Facts ℕ) → HoldJust (admittedOf value) (Listed facts) held → (row : List ℕ)
       → Yields itself rule held row ↔ Yields itself (value .question) (Listed facts) row
 
-pub yes-same : {book rewriting witness : List ℕ} → Checks book rewriting witness true → SameRows book rewriting
+pub yes-same : {book rewriting witness : List ℕ} → Checks book rewriting witness true → YesSameRows book rewriting
 yes-same c = let t = c .exactly .0 refl in record { value = t .value; sound = t .sound; rule = t .rule; written = t .written; same = true-same t }
 
 -- "For an equivalent rewriting of 1 to 12 subgoals over admitted summaries, within the layout, some witness passes; for others none does."

@@ -9,11 +9,11 @@ use Rattle.spec.specs.Words.{Term, Subgoal}
 use Rattle.spec.specs.Book.{Book}
 use Rattle.placing.specs.FirstPlaces.{FirstPlaces}
 use Rattle.placing.specs.declared.Places.{Places}
-use Rattle.witness.specs.WitnessBytes.{placeBytes, Placed}
+use Rattle.witness.specs.WitnessBytes.{placeBytes, PlacesFit}
 use Rattle.book_codes.specs.Question.{QuestionTarget, QuestionBound}
 use Rattle.witness.specs.ThereTold.{Serves}
 use Rattle.witness.specs.BackTold.{BackOf}
-use Rattle.book_codes.specs.UsesLent.{FromOf}
+use Rattle.book_codes.specs.UsesLent.{SourceUsesOf}
 use Rattle.witness.proofs.Found.{FoundAt, found-at}
 use Rattle.book_codes.proofs.BackTask as task
 
@@ -25,7 +25,7 @@ places-written ks (k ∷ l) i named =
     let here : getD ks i 0 + 1 ≡ suc k = omega (arith, ap (λ n. getD ks n 0) z, named 0 (omega arith)) in
     ap₂ _∷_ here (places-written ks l (suc i) (λ j h. let e : suc i + j ≡ i + suc j = omega arith in ap (λ n. getD ks n 0) e ∙ named (suc j) (omega arith)))
 
-module _ {book source widths lasts : List ℕ} (b : Book) (l : List (Subgoal (Term ℕ))) (o : FromOf book source widths lasts b l)
+module _ {book source widths lasts : List ℕ} (b : Book) (l : List (Subgoal (Term ℕ))) (o : SourceUsesOf book source widths lasts b l)
     {before after : List ℕ} {n : ℕ} (target : QuestionTarget book before after n) {bound : List ℕ} (heads : QuestionBound book bound) where
   own-long : length {A = ℕ} (take n (replicate 12 0)) ≡ n
   own-long = task.own-long b l o target heads
@@ -40,7 +40,7 @@ module _ {book source widths lasts : List ℕ} (b : Book) (l : List (Subgoal (Te
     back-found : FoundAt (task.lent b l o target heads) bound r
     back-found = found-at f (task.back-places b l o target heads (serves .back))
 
-    pub back-placed : {out : List ℕ} {at : ℕ} → at + 96 ≤ length out → Placed out at (r .ks) (length widths)
+    pub back-placed : {out : List ℕ} {at : ℕ} → at + 96 ≤ length out → PlacesFit out at (r .ks) (length widths)
     back-placed room = record {
       room = omega (arith, all-few);
       few = all-few;

@@ -17,12 +17,12 @@ use Rattle.search_meaning.specs.Uses.{useAt, withinAt, pairsOf}
 use Rattle.outcomes.proofs.Bounds.{book-bounds}
 use Rattle.search_meaning.proofs.Owners.{owners-at}
 use Rattle.search_meaning.proofs.InUse.{uses-few}
-use Rattle.witness.specs.WitnessBytes.{pairBytes, Paired}
+use Rattle.witness.specs.WitnessBytes.{pairBytes, PairsFit}
 use Rattle.book_codes.proofs.Read.{insides-long, insides-at}
 use Rattle.book_codes.specs.Question.{QuestionSource, QuestionBound}
 use Rattle.book_codes.proofs.Lent.{source-widths}
 use Rattle.witness.specs.ThereTold.{Serves, ThereOf}
-use Rattle.book_codes.specs.UsesLent.{OntoOf}
+use Rattle.book_codes.specs.UsesLent.{TargetUsesOf}
 use Rattle.witness.proofs.Found.{FoundAt, found-at}
 use Rattle.book_codes.proofs.ThereTask as task
 
@@ -54,7 +54,7 @@ within-most (m ∷ ls) k = go (ltb k (length m)) (within-most ls (k - length m))
     go true rest = omega arith
     go false rest = omega arith
 
-module _ {book target own inner : List ℕ} (b : Book) (l : List (Subgoal (Term ℕ))) (o : OntoOf book target own inner b l)
+module _ {book target own inner : List ℕ} (b : Book) (l : List (Subgoal (Term ℕ))) (o : TargetUsesOf book target own inner b l)
     {before after old new : List ℕ} {n : ℕ} (source : QuestionSource book before after old new n) {bound : List ℕ} (heads : QuestionBound book bound) where
   abbrev ls : List (List (Subgoal (Term (Own ℕ))))
   ls = uses (admittedOf b) 0 l
@@ -93,7 +93,7 @@ module _ {book target own inner : List ℕ} (b : Book) (l : List (Subgoal (Term 
       | no h ↦ omega (arith, List·getD-eq-default inner 0 {n = k} (omega (arith, owned, insides-same)))
     ]
 
-    pub there-paired : {out : List ℕ} → 24 ≤ length out → Paired out (r .ks) own inner n
+    pub there-paired : {out : List ℕ} → 24 ≤ length out → PairsFit out (r .ks) own inner n
     there-paired room = record {
       room = omega (arith, few-goals);
       few = omega (arith, few-goals);

@@ -1,16 +1,16 @@
--- The uses of a list of rows as words, between the steps: as sources of the way back.
+-- The uses of a list of rows as codes, between the steps: as sources of the way back.
 use mathlib.Core.List.{List}
 use Prim.Native.Nat.{ℕ}
 use Rattle.spec.specs.Words.{Term, Subgoal}
 use Rattle.spec.specs.Book.{Book}
 use Rattle.witness.specs.ThereTold.{Serves}
 use Rattle.witness.specs.BackTold.{BackOf}
-use Rattle.book_codes.specs.UsesLent.{FromOf, From}
+use Rattle.book_codes.specs.UsesLent.{SourceUsesOf, SourceUses}
 
 module _ (book source widths lasts : List ℕ) where
   pub record FromServing : Type 0 where
-    pub from : From book source widths lasts
+    pub from : SourceUses book source widths lasts
     pub serves : Serves (from .value) (from .list)
 
   pub record FromTold (at : ℕ) (before after : List ℕ) (n : ℕ) : Type 0 where
-    pub is : (b : Book) (l : List (Subgoal (Term ℕ))) → FromOf book source widths lasts b l → Serves b l → BackOf b l at before after n
+    pub is : (b : Book) (l : List (Subgoal (Term ℕ))) → SourceUsesOf book source widths lasts b l → Serves b l → BackOf b l at before after n

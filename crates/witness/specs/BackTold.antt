@@ -1,4 +1,4 @@
--- What is promised of the second part of the witness, of every value of the book and every list whose words the rows are.
+-- What is promised of the second part of the witness, of every value of the book and every list whose codes the rows are.
 use mathlib.Core.Path.{_≡_}
 use mathlib.Core.List.{List}
 use Prim.Native.Nat.{ℕ, _≤_}
@@ -9,7 +9,7 @@ use Rattle.spec.specs.Summaries.{rewriting}
 use Rattle.spec.specs.Answer.{FirstBack}
 use Rattle.spec.specs.Book.{Book, admittedOf}
 use Rattle.witness.specs.ThereTold.{Serves}
-use Rattle.book_codes.specs.FewRows.{FewOf}
+use Rattle.book_codes.specs.FewRows.{FewRowsOf}
 
 -- The second part, from `at` on.
 pub record BackOf (b : Book) (l : List (Subgoal (Term ℕ))) (at : ℕ) (before after : List ℕ) (n : ℕ) : Type 0 where
@@ -20,4 +20,4 @@ pub record BackOf (b : Book) (l : List (Subgoal (Term ℕ))) (at : ℕ) (before 
   pub written : after ≡ sets before at bytes
 
 pub record BackTold (book rows : List ℕ) (k at : ℕ) (before after : List ℕ) (n : ℕ) : Type 0 where
-  pub is : (b : Book) (l : List (Subgoal (Term ℕ))) → FewOf book rows k b l → Serves b l → BackOf b l at before after n
+  pub is : (b : Book) (l : List (Subgoal (Term ℕ))) → FewRowsOf book rows k b l → Serves b l → BackOf b l at before after n

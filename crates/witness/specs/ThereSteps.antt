@@ -1,15 +1,15 @@
--- The uses of a list of rows as words, between the steps: as targets of the way there.
+-- The uses of a list of rows as codes, between the steps: as targets of the way there.
 use mathlib.Core.List.{List}
 use Prim.Native.Nat.{ℕ}
 use Rattle.spec.specs.Words.{Term, Subgoal}
 use Rattle.spec.specs.Book.{Book}
 use Rattle.witness.specs.ThereTold.{Serves, ThereOf}
-use Rattle.book_codes.specs.UsesLent.{OntoOf, Onto}
+use Rattle.book_codes.specs.UsesLent.{TargetUsesOf, TargetUses}
 
 module _ (book target own inner : List ℕ) where
   pub record OntoServing : Type 0 where
-    pub onto : Onto book target own inner
+    pub onto : TargetUses book target own inner
     pub serves : Serves (onto .value) (onto .list)
 
   pub record OntoTold (before after : List ℕ) (n : ℕ) : Type 0 where
-    pub is : (b : Book) (l : List (Subgoal (Term ℕ))) → OntoOf book target own inner b l → Serves b l → ThereOf b l before after n
+    pub is : (b : Book) (l : List (Subgoal (Term ℕ))) → TargetUsesOf book target own inner b l → Serves b l → ThereOf b l before after n

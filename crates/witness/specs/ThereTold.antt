@@ -1,4 +1,4 @@
--- What is promised of the first part of the witness, of every value of the book and every list whose words the rows are.
+-- What is promised of the first part of the witness, of every value of the book and every list whose codes the rows are.
 use mathlib.Core.Path.{_≡_}
 use mathlib.Core.List.{List}
 use Prim.Native.Nat.{ℕ, _≤_}
@@ -8,14 +8,14 @@ use Rattle.spec.specs.Words.{Term, Subgoal}
 use Rattle.spec.specs.Summaries.{rewriting, Equivalent}
 use Rattle.spec.specs.Answer.{FirstThere}
 use Rattle.spec.specs.Book.{Book, admittedOf}
-use Rattle.book_codes.specs.FewRows.{Few, FewOf}
+use Rattle.book_codes.specs.FewRows.{FewRows, FewRowsOf}
 
 -- The list is equivalent to the book's question.
 abbrev pub Serves : Book → List (Subgoal (Term ℕ)) → Type 0
 Serves b l = Equivalent (admittedOf b) (b .question) (rewriting (b .question) l)
 
 pub record Tells (book rows : List ℕ) (k : ℕ) : Type 0 where
-  pub some : Few book rows k
+  pub some : FewRows book rows k
   pub serves : Serves (some .value) (some .list)
 
 -- The first part, at the front of an area; the bytes behind it stay.
@@ -27,4 +27,4 @@ pub record ThereOf (b : Book) (l : List (Subgoal (Term ℕ))) (before after : Li
   pub written : after ≡ sets before 0 bytes
 
 pub record ThereTold (book rows : List ℕ) (k : ℕ) (before after : List ℕ) (n : ℕ) : Type 0 where
-  pub is : (b : Book) (l : List (Subgoal (Term ℕ))) → FewOf book rows k b l → Serves b l → ThereOf b l before after n
+  pub is : (b : Book) (l : List (Subgoal (Term ℕ))) → FewRowsOf book rows k b l → Serves b l → ThereOf b l before after n

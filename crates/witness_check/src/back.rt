@@ -1,8 +1,8 @@
 // "per rewriting subgoal and per subgoal of its summary, one byte: question subgoal".
 ghost use Prim.Native.Nat.{_≤_};
 ghost use lib.ListN.{length};
-ghost use Rattle.book_codes.specs.FewRows.{Few};
-ghost use Rattle.book_codes.specs.UsesLent.{From};
+ghost use Rattle.book_codes.specs.FewRows.{FewRows};
+ghost use Rattle.book_codes.specs.UsesLent.{SourceUses};
 ghost use Rattle.witness_check.specs.WayBack.Confirms.{BackConfirms};
 ghost use Rattle.witness_check.specs.WayBack.Places.{Before, BytePlaces};
 ghost use Rattle.witness_check.specs.WayBack.Steps.{FromConfirms};
@@ -40,9 +40,9 @@ fn byte_places(witness: &[u8]) -> [u16; USES_GOALS]
     ks
 }
 
-// Over the words of the uses.
+// Over the codes of the uses.
 fn back_along(book: &[u8], source: &[u64], widths: &[u8], lasts: &[u8], witness: &[u8]) -> bool
-    requires { ⌜ From (now book) (now source) (now widths) (now lasts) ⌝ }
+    requires { ⌜ SourceUses (now book) (now source) (now widths) (now lasts) ⌝ }
     ensures { λ r. ⌜ FromConfirms (now (book .entry)) (now (source .entry)) (now (widths .entry)) (now (lasts .entry)) (now (witness .entry)) r ⌝ }
 {
     if witness.len() != widths.len() {
@@ -66,7 +66,7 @@ fn back_along(book: &[u8], source: &[u64], widths: &[u8], lasts: &[u8], witness:
 
 // Whether the bytes are the second part of a witness of k rows.
 pub fn comes_back(book: &[u8], rows: &[u64], k: usize, witness: &[u8]) -> bool
-    requires { ⌜ Few (now book) (now rows) k ⌝ }
+    requires { ⌜ FewRows (now book) (now rows) k ⌝ }
     ensures { λ r. ⌜ BackConfirms (now (book .entry)) (now (rows .entry)) k (now (witness .entry)) r ⌝ }
 {
     let mut source = [0u64; USES_CODES];

@@ -3,7 +3,7 @@
 ghost use mathlib.Core.Path.{_≡_};
 ghost use Prim.Native.Nat.{_*_, _<_, _≤_};
 ghost use lib.ListN.{length};
-ghost use Rattle.book_codes.specs.FewRows.{Few};
+ghost use Rattle.book_codes.specs.FewRows.{FewRows};
 ghost use Rattle.witness_check.specs.WayThere.Confirms.{ThereConfirms};
 ghost use Rattle.witness_check.specs.WayThere.Places.{PlaceOf, PairPlaces};
 ghost use Rattle.witness_check.specs.WayThere.Steps.{Stood, StoodConfirms};
@@ -61,7 +61,7 @@ fn pair_places(
     ks
 }
 
-// Over the words of the uses of k rows.
+// Over the codes of the uses of k rows.
 fn there_along(
     book: &[u8],
     target: &[u64],
@@ -95,7 +95,7 @@ fn there_along(
 
 // Whether the bytes are the first part of a witness of k rows.
 pub fn goes_there(book: &[u8], rows: &[u64], k: usize, witness: &[u8]) -> bool
-    requires { ⌜ Few (now book) (now rows) k ⌝ }
+    requires { ⌜ FewRows (now book) (now rows) k ⌝ }
     ensures { λ r. ⌜ ThereConfirms (now (book .entry)) (now (rows .entry)) k (now (witness .entry)) r ⌝ }
 {
     let mut target = [0u64; USES_CODES];

@@ -2,12 +2,12 @@ use borrow.Author.Needs.{needs}
 use mathlib.Core.Bool.{true, false}
 use mir.Syntax.{w32, w64}
 use mir.ValLaws.{toZ-ofZ}
-use Rattle.admission.proofs.Signs.{Below, below, above, tested}
+use Rattle.admission.proofs.Signs.{NegativeLead, below, above, tested}
 use Rattle.admission.proofs.size_of.Statement.{statement}
 use Rattle.admission.proofs.size_of.Tie as tie
 
 -- In the first branch the lead is below 0.
-down : (c : tie.Then1) → Below (c .before .args .lead)
+down : (c : tie.Then1) → NegativeLead (c .before .args .lead)
 down c = below _ (c .before .fits .lead) (tested _ true (c .before .fits .lead) (c .if1 .taken))
 
 cast-result : tie.Need-cast-result

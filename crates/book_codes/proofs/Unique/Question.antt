@@ -14,14 +14,14 @@ module _ {book : List ℕ} (w : SomeSound book) where
   pub source-once : {before after other old new more : List ℕ} {n m : ℕ} → QuestionSource book before after old new n → QuestionSource book before other old more m → (n ≡ m) × (after ≡ other) × (new ≡ more)
   source-once a b = (
     a .count (w .value) (w .sound) ∙ sym (b .count (w .value) (w .sound)),
-    a .words (w .value) (w .sound) ∙ sym (b .words (w .value) (w .sound)),
+    a .codes (w .value) (w .sound) ∙ sym (b .codes (w .value) (w .sound)),
     a .widths (w .value) (w .sound) ∙ sym (b .widths (w .value) (w .sound)),
   )
 
   pub target-once : {before after other : List ℕ} {n m : ℕ} → QuestionTarget book before after n → QuestionTarget book before other m → (n ≡ m) × (after ≡ other)
-  target-once a b = (a .count (w .value) (w .sound) ∙ sym (b .count (w .value) (w .sound)), a .words (w .value) (w .sound) ∙ sym (b .words (w .value) (w .sound)))
+  target-once a b = (a .count (w .value) (w .sound) ∙ sym (b .count (w .value) (w .sound)), a .codes (w .value) (w .sound) ∙ sym (b .codes (w .value) (w .sound)))
 
-  -- bindings are 64 words
+  -- bindings are 64 codes
   pub bindings-once : (a b : List ℕ) → length a ≡ 64 → length b ≡ 64 → QuestionBound book a → QuestionBound book b → a ≡ b
   bindings-once a b n m t u = ext-getD 0 a b (n ∙ sym m) (λ x h. go x (ℕ-discrete (getD a x 0) 0) (ℕ-discrete (getD b x 0) 0))
     where

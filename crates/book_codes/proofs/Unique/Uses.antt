@@ -1,19 +1,19 @@
--- Any two results that meet a promise are the same: the book has one value, and the words one list of rows.
+-- Any two results that meet a promise are the same: the book has one value, and the codes one list of rows.
 use mathlib.Core.Path.{_≡_, sym, _∙_}
 use mathlib.Core.List.{List}
 use Prim.Native.Nat.{ℕ}
 use Rattle.spec.specs.Words.{Term}
 use Rattle.spec.specs.Summaries.{Own}
 use Rattle.book_codes.specs.RowsGiven.{RowsGiven}
-use Rattle.book_codes.specs.AllUses.{Counted, AllWords, AllOwners, AllInsides, AllWidths, AllEnds, AllStarts}
+use Rattle.book_codes.specs.AllUses.{GoalsCounted, AllCodes, AllOwners, AllInsides, AllWidths, AllEnds, AllStarts}
 
 module _ {book rows : List ℕ} {n : ℕ} (w : RowsGiven book rows n) where
-  pub counted-once : {k m : ℕ} → Counted book rows n k → Counted book rows n m → k ≡ m
+  pub counted-once : {k m : ℕ} → GoalsCounted book rows n k → GoalsCounted book rows n m → k ≡ m
   counted-once a b = a .is (w .value) (w .list) (w .is) ∙ sym (b .is (w .value) (w .list) (w .is))
 
   module _ {before after other : List ℕ} where
-    pub words-once : {code : Term (Own ℕ) → ℕ} → AllWords book rows n code before after → AllWords book rows n code before other → after ≡ other
-    words-once a b = a .is (w .value) (w .list) (w .is) ∙ sym (b .is (w .value) (w .list) (w .is))
+    pub codes-once : {code : Term (Own ℕ) → ℕ} → AllCodes book rows n code before after → AllCodes book rows n code before other → after ≡ other
+    codes-once a b = a .is (w .value) (w .list) (w .is) ∙ sym (b .is (w .value) (w .list) (w .is))
 
     pub owners-once : AllOwners book rows n before after → AllOwners book rows n before other → after ≡ other
     owners-once a b = a .is (w .value) (w .list) (w .is) ∙ sym (b .is (w .value) (w .list) (w .is))

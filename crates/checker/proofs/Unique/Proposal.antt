@@ -5,7 +5,7 @@ use Prim.Native.Nat.{ℕ, zero, suc}
 use native.Mathlib.Omega.{arith}
 use lib.ListN.{length}
 use Rattle.spec.specs.Words.{Rule}
-use Rattle.codes.specs.Code.{termCode, wordsOf}
+use Rattle.codes.specs.Code.{termCode, codesOf}
 use Rattle.rule_codes.specs.Codes.{atFront}
 use Rattle.book_codes.specs.Question.{SomeSound}
 use Rattle.outcomes.proofs.AsRule.{rule-once}
@@ -13,16 +13,16 @@ use Rattle.checker.specs.declared.proposal.Proposal.{Proposal}
 use Rattle.checker.specs.Proposed.{empty, IsProposed, Proposed}
 
 module _ {book rewriting : List ℕ} (w : SomeSound book) (r o : Proposal) (p : Proposed book rewriting r) (q : Proposed book rewriting o) where
-  both : IsProposed (w .value) rewriting r → IsProposed (w .value) rewriting o → (r .count ≡ o .count) × (r .words ≡ o .words)
+  both : IsProposed (w .value) rewriting r → IsProposed (w .value) rewriting o → (r .count ≡ o .count) × (r .codes ≡ o .codes)
   both x y =
       let same : x .rule ≡ y .rule = rule-once (w .value) (w .sound) rewriting (x .rule) (y .rule) (x .is) (y .is) (x .written) (y .written) in
-      (x .count ∙ ap (λ (v : Rule ℕ). length (v .body)) same ∙ sym (y .count), x .words ∙ ap (λ (v : Rule ℕ). atFront (wordsOf termCode (v .body)) empty) same ∙ sym (y .words))
+      (x .count ∙ ap (λ (v : Rule ℕ). length (v .body)) same ∙ sym (y .count), x .codes ∙ ap (λ (v : Rule ℕ). atFront (codesOf termCode (v .body)) empty) same ∙ sym (y .codes))
 
-  parts : (n m : ℕ) → r .count ≡ n → o .count ≡ m → (r .count ≡ o .count) × (r .words ≡ o .words)
-  parts zero zero e f = (e ∙ sym f, p .none (w .value) (w .sound) e .words ∙ sym (q .none (w .value) (w .sound) f .words))
+  parts : (n m : ℕ) → r .count ≡ n → o .count ≡ m → (r .count ≡ o .count) × (r .codes ≡ o .codes)
+  parts zero zero e f = (e ∙ sym f, p .none (w .value) (w .sound) e .codes ∙ sym (q .none (w .value) (w .sound) f .codes))
   parts zero (suc m) e f = let y = q .some (w .value) (w .sound) (omega arith) in absurd (p .none (w .value) (w .sound) e .none (y .rule) (y .is) (y .written))
   parts (suc n) zero e f = let x = p .some (w .value) (w .sound) (omega arith) in absurd (q .none (w .value) (w .sound) f .none (x .rule) (x .is) (x .written))
   parts (suc n) (suc m) e f = both (p .some (w .value) (w .sound) (omega arith)) (q .some (w .value) (w .sound) (omega arith))
 
   pub proposed-once : r ≡ o
-  proposed-once = let h = parts (r .count) (o .count) refl refl in λ i. record { count = h .0 i; words = h .1 i }
+  proposed-once = let h = parts (r .count) (o .count) refl refl in λ i. record { count = h .0 i; codes = h .1 i }

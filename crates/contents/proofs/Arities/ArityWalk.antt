@@ -8,17 +8,17 @@ use Rattle.spec.specs.BookLayout.{Arities}
 use Rattle.spec.proofs.Lists.Places.{place-of, getD-in}
 
 -- Each byte below i is an arity.
-pub record InRange (part : List ℕ) (i : ℕ) : Type 0 where
+pub record AritiesInRange (part : List ℕ) (i : ℕ) : Type 0 where
   pub range : (k : ℕ) → k < i → (1 ≤ getD part k 0) × (getD part k 0 ≤ 8)
 
 module _ (part : List ℕ) where
-  pub range-none : InRange part 0
+  pub range-none : AritiesInRange part 0
   range-none = record { range = λ k h. absurd (omega arith) }
 
-  pub range-more : (i : ℕ) → InRange part i → 1 ≤ getD part i 0 → getD part i 0 ≤ 8 → InRange part (i + 1)
+  pub range-more : (i : ℕ) → AritiesInRange part i → 1 ≤ getD part i 0 → getD part i 0 ≤ 8 → AritiesInRange part (i + 1)
   range-more i f l h = record { range = below-more _ _ (f .range) (l, h) }
 
-  pub in-range : (i : ℕ) → 1 ≤ length part → length part ≤ 32 → length part ≤ i → InRange part i → Arities part
+  pub in-range : (i : ℕ) → 1 ≤ length part → length part ≤ 32 → length part ≤ i → AritiesInRange part i → Arities part
   in-range i l h e f = record { some = l; few = h; range = λ a m. let p = place-of 0 m in let r = f .range (p .0) (omega arith) in (omega arith, omega arith) }
 
   -- An arity's range at a place of the list.

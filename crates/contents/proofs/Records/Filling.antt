@@ -10,7 +10,7 @@ use Rattle.spec.specs.Contents.{count, entriesIn, offsetAt, lengthAt, stampAt}
 use Rattle.spec.specs.Refusals.{Loads}
 use Rattle.spec.proofs.Bytes.Within.{loads-room, entries-are, entries-counted}
 use Rattle.spec.specs.TableLoading.{recordAt, recordsFrom, JudgeSays, Afterwards, LoadingSays}
-use Rattle.contents.specs.Records.{recordsOf, Few}
+use Rattle.contents.specs.Records.{recordsOf, FewSummaries}
 use Rattle.spec.specs.declared.Entry.{Entry}
 use Rattle.spec.specs.declared.Loaded.{Loaded}
 use Rattle.spec.specs.declared.Loaded.the-variants.{Good, Refused}
@@ -62,11 +62,11 @@ filled-is book table many h =
     ∙ ap (λ (k : ℕ). records ++ drop k table) end
 
 -- What the loop needs: a table with room for each record, and each entry's bytes within the book.
-pub record Fitting (book : List ℕ) (room many : ℕ) : Type 0 where
+pub record TableFits (book : List ℕ) (room many : ℕ) : Type 0 where
   pub within : many ≤ room
   pub long : (i : ℕ) → i < many → 14 + 12 * i ≤ length book
 
-fits : (book : List ℕ) (room : ℕ) (said : Loaded) → JudgeSays book room said → Fitting book room (recordsOf said)
+fits : (book : List ℕ) (room : ℕ) (said : Loaded) → JudgeSays book room said → TableFits book room (recordsOf said)
 fits book room (Good n) h =
     let few = h .1 .0 .few in
     let counted = h .1 .1 in
@@ -74,10 +74,10 @@ fits book room (Good n) h =
     record { within = omega arith; long = λ i l. loads-room book i (h .1 .0) (subst (λ (k : ℕ). i < k) (entries-counted book n (entries n) counted refl) l) }
 fits book room (Refused r) h = record { within = omega arith; long = λ i l. absurd (omega arith) }
 
-pub fitting : (book : List ℕ) (room : ℕ) (said : Loaded) (many : ℕ) → JudgeSays book room said → many ≡ recordsOf said → Fitting book room many
-fitting book room said many h e = subst (Fitting book room) (sym e) (fits book room said h)
+pub fitting : (book : List ℕ) (room : ℕ) (said : Loaded) (many : ℕ) → JudgeSays book room said → many ≡ recordsOf said → TableFits book room many
+fitting book room said many h e = subst (TableFits book room) (sym e) (fits book room said h)
 
-pub few-said : (book : List ℕ) (room : ℕ) (said : Loaded) → JudgeSays book room said → Few said
+pub few-said : (book : List ℕ) (room : ℕ) (said : Loaded) → JudgeSays book room said → FewSummaries said
 few-said book room (Good n) h = let few = h .1 .0 .few in let counted = h .1 .1 in omega arith
 few-said book room (Refused r) h = tt
 

@@ -7,12 +7,12 @@ use borrow.Author.Tests.{not-true, not-false}
 use Rattle.task.specs.Task.{posed}
 use Rattle.lookahead.proofs.InVain.{Wanted, wanted-start, wanted-next, wanted-steady, wanted-more, readable, readable-alone, offers-whole, slots-whole, vain-none, vain-many, fair-said, vain-said}
 use Rattle.lookahead.specs.Seen.{closed}
-use Rattle.lookahead.proofs.Counted.{Counted, counted-start, counted-next, counted-more, hope, despair, contented, wanting, serves, served-by, seen-alone, seen-together, seen-fair}
+use Rattle.lookahead.proofs.Counted.{WantsCounted, counted-start, counted-next, counted-more, hope, despair, contented, wanting, serves, served-by, seen-alone, seen-together, seen-fair}
 use Rattle.lookahead.proofs.look.Statement.{statement}
 use Rattle.lookahead.proofs.look.Tie as tie
 
 abbrev Inv-loop : tie.InvT-loop
-Inv-loop source widths lasts target own at b rows allowed w₀ i₀ i-end w i = (at ≤ i) × Wanted (posed source widths lasts target own) at b rows w i × Counted (posed source widths lasts target own) at b rows w i
+Inv-loop source widths lasts target own at b rows allowed w₀ i₀ i-end w i = (at ≤ i) × Wanted (posed source widths lasts target own) at b rows w i × WantsCounted (posed source widths lasts target own) at b rows w i
 
 abbrev μ-loop : tie.MeasureT-loop
 μ-loop source widths lasts target own at b rows allowed w₀ i₀ i-end w i = i-end - i

@@ -1,11 +1,11 @@
 use borrow.Author.Needs.{needs}
 use Prim.Native.Nat.{_≤_, _-_}
-use Rattle.lookahead.proofs.Looking.{Going, going-start, going-more, going-ends, going-whole}
+use Rattle.lookahead.proofs.Looking.{UseGoesOn, going-start, going-more, going-ends, going-whole}
 use Rattle.lookahead.proofs.use_end.Statement.{statement}
 use Rattle.lookahead.proofs.use_end.Tie as tie
 
 abbrev Inv-loop : tie.InvT-loop
-Inv-loop lasts at i₀ i-end i = Going lasts at i
+Inv-loop lasts at i₀ i-end i = UseGoesOn lasts at i
 
 abbrev μ-loop : tie.MeasureT-loop
 μ-loop lasts at i₀ i-end i = i-end - i

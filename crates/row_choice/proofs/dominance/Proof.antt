@@ -2,12 +2,12 @@ use borrow.Author.Needs.{needs}
 use Prim.Native.Nat.{_≤_, _-_}
 use mathlib.Core.Path.{refl}
 use native.Mathlib.Omega.{arith}
-use Rattle.row_choice.proofs.TableSteps.{rows-onto, Filled, filled-starts, filled-goes, filled-ends}
+use Rattle.row_choice.proofs.TableSteps.{rows-onto, TableFilled, filled-starts, filled-goes, filled-ends}
 use Rattle.row_choice.proofs.dominance.Statement.{statement}
 use Rattle.row_choice.proofs.dominance.Tie as tie
 
 abbrev Inv-loop : tie.InvT-loop
-Inv-loop book rows n target starts table₀ r₀ table r = (r ≤ n) × Filled book rows n r table
+Inv-loop book rows n target starts table₀ r₀ table r = (r ≤ n) × TableFilled book rows n r table
 
 abbrev μ-loop : tie.MeasureT-loop
 μ-loop book rows n target starts table₀ r₀ table r = n - r

@@ -12,8 +12,8 @@ use Rattle.spec.specs.Summaries.{Summaries, Own}
 use Rattle.rule_codes.specs.Laid.{Laid, UseFor, QuestionLaid}
 use Rattle.rule_codes.proofs.Unique.Ascending.{in-order-unique}
 use Rattle.rule_codes.specs.BodyTerms.{BodyTerms}
-use Rattle.rule_codes.specs.Heads.{HeadWords, HeadBindings}
-use Rattle.rule_codes.specs.Uses.{UseWords}
+use Rattle.rule_codes.specs.Heads.{HeadCodes, HeadBindings}
+use Rattle.rule_codes.specs.Uses.{UseCodes}
 
 -- whether a variable stands in a head
 shown : (x : ℕ) (head : List (Term ℕ)) → Dec (var x ∈ head)
@@ -39,10 +39,10 @@ shown x (var y ∷ head) = go (ℕ-discrete x y) (shown x head)
     go (no d) (no f) = no (other d f)
 
 module _ {bytes a b : List ℕ} (l : Laid bytes) where
-  pub head-words-unique : HeadWords bytes a → HeadWords bytes b → a ≡ b
-  head-words-unique t u = t .is (l .arities) (l .most) (l .rule) (l .layout) ∙ sym (u .is (l .arities) (l .most) (l .rule) (l .layout))
+  pub head-codes-unique : HeadCodes bytes a → HeadCodes bytes b → a ≡ b
+  head-codes-unique t u = t .is (l .arities) (l .most) (l .rule) (l .layout) ∙ sym (u .is (l .arities) (l .most) (l .rule) (l .layout))
 
-  -- bindings are 64 words
+  -- bindings are 64 codes
   pub bindings-unique : length a ≡ 64 → length b ≡ 64 → HeadBindings bytes a → HeadBindings bytes b → a ≡ b
   bindings-unique n m t u = ext-getD 0 a b (n ∙ sym m) (λ x h. at x (shown x (l .rule .head)))
     where
@@ -50,10 +50,10 @@ module _ {bytes a b : List ℕ} (l : Laid bytes) where
       at x (yes i) = t .shown (l .arities) (l .most) (l .rule) (l .layout) x i ∙ sym (u .shown (l .arities) (l .most) (l .rule) (l .layout) x i)
       at x (no f) = t .other (l .arities) (l .most) (l .rule) (l .layout) x f ∙ sym (u .other (l .arities) (l .most) (l .rule) (l .layout) x f)
 
-pub use-words-unique : {arities bytes row before after other : List ℕ} {area u n m : ℕ} {code : Term (Own ℕ) → ℕ} → UseFor arities bytes row area
-    → UseWords arities bytes row code u before after n → UseWords arities bytes row code u before other m → (after ≡ other) × (n ≡ m)
-use-words-unique {u = u} w a b =
-    (a .words (w .rule) s g (w .is) refl ∙ sym (b .words (w .rule) s g (w .is) refl), a .count (w .rule) (w .terms) (w .is) ∙ sym (b .count (w .rule) (w .terms) (w .is)))
+pub use-codes-unique : {arities bytes row before after other : List ℕ} {area u n m : ℕ} {code : Term (Own ℕ) → ℕ} → UseFor arities bytes row area
+    → UseCodes arities bytes row code u before after n → UseCodes arities bytes row code u before other m → (after ≡ other) × (n ≡ m)
+use-codes-unique {u = u} w a b =
+    (a .codes (w .rule) s g (w .is) refl ∙ sym (b .codes (w .rule) s g (w .is) refl), a .count (w .rule) (w .terms) (w .is) ∙ sym (b .count (w .rule) (w .terms) (w .is)))
   where
     -- the summary alone, and the row
     s : Summaries

@@ -9,7 +9,7 @@ use Rattle.spec.specs.Summaries.{joined}
 use Rattle.spec.specs.Book.{Book}
 use Rattle.spec.specs.Numbers.{little, Bytes}
 use Rattle.spec.specs.RuleLayout.{termBytes, termsBytes, subgoalBytes, ruleBytes, RuleWithin}
-use Rattle.spec.specs.BookLayout.{Entry, contentsEnd, contentsFrom, entriesOf, entryOf, bodies, bookBytes, questionMost, summaryMost, Arities, SoundValue, SoundBook}
+use Rattle.spec.specs.BookLayout.{StampedBody, contentsEnd, contentsFrom, entriesOf, entryOf, bodies, bookBytes, questionMost, summaryMost, Arities, SoundValue, SoundBook}
 use Rattle.spec.proofs.Bytes.NumberLaws.{bytes-little, bytes-cons, bytes-append}
 
 -- `Bytes` with the list in sight, so that it need not be written at each step.
@@ -51,7 +51,7 @@ within : {arities : List ℕ} → Arities arities → (most : ℕ) → most < 25
 within a most h r w =
     rule r (let short = w .short in omega arith) (let few = w .few in omega arith) (λ g m. let known = w .fit g m .known in let few = a .few in omega arith)
 
-contents : (at : ℕ) (es : List Entry) → Written (contentsFrom at es)
+contents : (at : ℕ) (es : List StampedBody) → Written (contentsFrom at es)
 contents at [] = none
 contents at (e ∷ es) = both (number 4 at) (both (number 4 (length (e .body))) (both (number 4 (e .stamp)) (contents (at + length (e .body)) es)))
 

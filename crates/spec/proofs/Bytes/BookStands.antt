@@ -9,21 +9,21 @@ use Rattle.spec.specs.Words.{_∈_}
 use Rattle.spec.specs.Summaries.{place}
 use Rattle.spec.specs.Book.{Summary, Book}
 use Rattle.spec.specs.RuleLayout.{ruleBytes}
-use Rattle.spec.specs.BookLayout.{Entry, entries, entryOf, entriesOf, SoundValue, SoundBook}
+use Rattle.spec.specs.BookLayout.{StampedBody, entries, entryOf, entriesOf, SoundValue, SoundBook}
 use Rattle.spec.specs.Contents.{count, entriesIn, stampAt, partAt, NoGaps, RightRelations}
 use Rattle.spec.specs.Refusals.{longest}
 use Rattle.spec.proofs.Lists.Places.{place-map, no-place}
 use Rattle.spec.proofs.Bytes.Laid.{laid, book-laid}
 use Rattle.spec.proofs.Bytes.BookSizes.{entries-many, book-most}
-use Rattle.spec.proofs.Bytes.Stands.{Fitting, laid-count, laid-part, laid-stamp, laid-no-gaps}
+use Rattle.spec.proofs.Bytes.Stands.{ContentsFit, laid-count, laid-part, laid-stamp, laid-no-gaps}
 
 module _ (b : Book) (v : SoundValue b) where
-  stamps-fit : (e : Entry) → e ∈ entriesOf b → e .stamp < 4294967296
+  stamps-fit : (e : StampedBody) → e ∈ entriesOf b → e .stamp < 4294967296
   stamps-fit e (List·Memᴰ·head p) = rw p (omega arith)
   stamps-fit e (List·Memᴰ·tail (List·Memᴰ·head p)) = rw p (v .need)
   stamps-fit e (List·Memᴰ·tail (List·Memᴰ·tail m)) = let s = Memᴰ·of-map entryOf (b .summaries) m in rw (sym (s .2)) (v .summaries (s .0) (s .1) .stamp)
 
-  fitting : Fitting (length (b .summaries)) (entriesOf b)
+  fitting : ContentsFit (length (b .summaries)) (entriesOf b)
   unfolding longest
   fitting = record { all = entries-many b; few = let few = v .few in omega arith; size = rw (← book-laid b) (omega (arith, book-most b v)); stamps = stamps-fit }
 
@@ -41,7 +41,7 @@ module _ {bytes : List ℕ} {b : Book} (s : SoundBook bytes b) where
   pub book-no-gaps : NoGaps bytes
   book-no-gaps = rw is-laid (laid-no-gaps _ _ (fitting b (s .value)))
 
-  module _ (i : ℕ) (e : Entry) (stands : place (entriesOf b) (suc i) ≡ some e) where
+  module _ (i : ℕ) (e : StampedBody) (stands : place (entriesOf b) (suc i) ≡ some e) where
     entry-part : partAt bytes i ≡ e .body
     entry-part = rw is-laid (laid-part _ _ (fitting b (s .value)) i e stands)
 

@@ -7,17 +7,17 @@ use lib.ListN.{length, take, drop, length-drop, take-append-drop}
 use lib.Seq.{take-add, drop-drop, drop-length, length-take-le}
 use Rattle.spec.specs.Summaries.{joined}
 use Rattle.spec.specs.Numbers.{little, Bytes, numberAt}
-use Rattle.spec.specs.BookLayout.{Entry, entries, contentsEnd, contentsFrom, bodies}
+use Rattle.spec.specs.BookLayout.{StampedBody, entries, contentsEnd, contentsFrom, bodies}
 use Rattle.spec.specs.Contents.{count, entriesIn, offsetAt, lengthAt, stampAt, partAt, beginAt, NoGaps}
 use Rattle.spec.proofs.Bytes.NumberLaws.{little-value, bytes-take, bytes-drop}
 use Rattle.spec.proofs.Bytes.Within.{entry-room, part-long}
 use Rattle.spec.proofs.Bytes.Laid.{laid}
 
-abbrev pub entryAt : List ℕ → ℕ → Entry
+abbrev pub entryAt : List ℕ → ℕ → StampedBody
 entryAt book i = record { stamp = stampAt book i; body = partAt book i }
 
 -- So many of its entries, from entry i on.
-abbrev pub entriesFrom : List ℕ → ℕ → ℕ → List Entry
+abbrev pub entriesFrom : List ℕ → ℕ → ℕ → List StampedBody
 entriesFrom book i zero = []
 entriesFrom book i (suc many) = entryAt book i ∷ entriesFrom book (suc i) many
 

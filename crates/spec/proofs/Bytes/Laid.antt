@@ -7,10 +7,10 @@ use lib.ListN.{length, length-append}
 use Rattle.spec.specs.Summaries.{joined}
 use Rattle.spec.specs.Book.{Book}
 use Rattle.spec.specs.Numbers.{little}
-use Rattle.spec.specs.BookLayout.{Entry, entries, contentsEnd, contentsFrom, entriesOf, bodies, bookBytes}
+use Rattle.spec.specs.BookLayout.{StampedBody, entries, contentsEnd, contentsFrom, entriesOf, bodies, bookBytes}
 
 -- A count, the contents of these entries and their bodies: a book's bytes are its entries laid out so.
-unfoldable pub laid : ℕ → List Entry → List ℕ
+unfoldable pub laid : ℕ → List StampedBody → List ℕ
 laid n es = little 2 n ++ (contentsFrom (contentsEnd n) es ++ joined (bodies es))
 
 pub book-laid : (b : Book) → bookBytes b ≡ laid (length (b .summaries)) (entriesOf b)
@@ -18,11 +18,11 @@ unfolding bookBytes laid
 book-laid b = refl
 
 -- "entries of 12 bytes"
-pub contents-size : (at : ℕ) (es : List Entry) → length (contentsFrom at es) ≡ 12 * length es
+pub contents-size : (at : ℕ) (es : List StampedBody) → length (contentsFrom at es) ≡ 12 * length es
 contents-size at [] = refl
 contents-size at (e ∷ es) = omega (arith, contents-size (at + length (e .body)) es)
 
-module _ (n : ℕ) (es : List Entry) (all : length es ≡ entries n) where
+module _ (n : ℕ) (es : List StampedBody) (all : length es ≡ entries n) where
   -- "Contents first": up to here
   pub contents-end : length (little 2 n ++ contentsFrom (contentsEnd n) es) ≡ contentsEnd n
   unfolding contentsEnd entries

@@ -18,38 +18,38 @@ same-term (con c) (var y) = no (λ e. let z : _≡_ {A = ℕ} 0 1 = cc in omega 
 same-term (con c) (con d) = map-dec (ap con) (λ e. cc) (ℕ-discrete c d)
 
 -- "every head variable stands in the body", said of the head's terms
-abbrev Stands : List (Subgoal (Term ℕ)) → Term ℕ → Type 0
-Stands body (var x) = (g : Subgoal (Term ℕ)) × (g ∈ body) × (var x ∈ g .terms)
-Stands body (con c) = Unit {0}
+abbrev StandsInBody : List (Subgoal (Term ℕ)) → Term ℕ → Type 0
+StandsInBody body (var x) = (g : Subgoal (Term ℕ)) × (g ∈ body) × (var x ∈ g .terms)
+StandsInBody body (con c) = Unit {0}
 
-stands-decided : (body : List (Subgoal (Term ℕ))) (t : Term ℕ) → Dec (Stands body t)
+stands-decided : (body : List (Subgoal (Term ℕ))) (t : Term ℕ) → Dec (StandsInBody body t)
 stands-decided body (var x) = some-in (λ g. var x ∈ g .terms) (λ g. is-in same-term (var x) (g .terms)) body
 stands-decided body (con c) = yes tt
 
 module _ (r : Rule ℕ) where
   -- A head variable stands nowhere in the body.
-  abbrev pub Unsafe : Type 0
-  Unsafe = (x : ℕ) × (var x ∈ r .head) × ((g : Subgoal (Term ℕ)) → g ∈ r .body → var x ∈ g .terms → ⊥)
+  abbrev pub NotSafe : Type 0
+  NotSafe = (x : ℕ) × (var x ∈ r .head) × ((g : Subgoal (Term ℕ)) → g ∈ r .body → var x ∈ g .terms → ⊥)
 
-  safe-or-unsafe : Safe r ⊎ Unsafe
-  safe-or-unsafe = go (each-or-not (Stands (r .body)) (stands-decided (r .body)) (r .head))
+  safe-or-unsafe : Safe r ⊎ NotSafe
+  safe-or-unsafe = go (each-or-not (StandsInBody (r .body)) (stands-decided (r .body)) (r .head))
     where
-      fails : (t : Term ℕ) → t ∈ r .head → (Stands (r .body) t → ⊥) → Unsafe
+      fails : (t : Term ℕ) → t ∈ r .head → (StandsInBody (r .body) t → ⊥) → NotSafe
       fails (var x) m f = (x, m, λ g i j. f (g, i, j))
       fails (con c) m f = absurd (f tt)
 
-      go : ((t : Term ℕ) → t ∈ r .head → Stands (r .body) t) ⊎ ((t : Term ℕ) × (t ∈ r .head) × (Stands (r .body) t → ⊥)) → Safe r ⊎ Unsafe
+      go : ((t : Term ℕ) → t ∈ r .head → StandsInBody (r .body) t) ⊎ ((t : Term ℕ) × (t ∈ r .head) × (StandsInBody (r .body) t → ⊥)) → Safe r ⊎ NotSafe
       go (inl h) = inl (λ x m. h (var x) m)
       go (inr w) = inr (fails (w .0) (w .1) (w .2))
 
-  unsafe-not : Unsafe → Safe r → ⊥
+  unsafe-not : NotSafe → Safe r → ⊥
   unsafe-not u h = let s = h (u .0) (u .1) in u .2 (s .0) (s .1) (s .2)
 
   pub safe-decided : Dec (Safe r)
   safe-decided = decided safe-or-unsafe unsafe-not
 
   -- "a rule isn't safe"
-  pub fault-7 : (Safe r → ⊥) ↔ Unsafe
+  pub fault-7 : (Safe r → ⊥) ↔ NotSafe
   fault-7 = contrary safe-or-unsafe unsafe-not
 
 -- "holds a constant or a variable twice"

@@ -9,7 +9,7 @@ use lib.Seq.{drop-drop, take-append-seam}
 use Rattle.spec.specs.Words.{_∈_}
 use Rattle.spec.specs.Summaries.{place, joined}
 use Rattle.spec.specs.Numbers.{little, numberAt}
-use Rattle.spec.specs.BookLayout.{Entry, entries, contentsEnd, contentsFrom, bodies}
+use Rattle.spec.specs.BookLayout.{StampedBody, entries, contentsEnd, contentsFrom, bodies}
 use Rattle.spec.specs.Contents.{count, entriesIn, offsetAt, lengthAt, stampAt, partAt, beginAt, NoGaps}
 use Rattle.spec.proofs.Bytes.NumberLaws.{value-little}
 use Rattle.spec.proofs.Lists.Places.{place-some, place-in, place-drop, place-less}
@@ -17,18 +17,18 @@ use Rattle.spec.proofs.Bytes.Laid.{laid, contents-end, laid-size}
 use Rattle.spec.proofs.Bytes.Starts.{bodyOf, startOf, start-next, start-within, start-end, drop-contents, drop-parts}
 
 -- The numbers of the contents fit their bytes.
-pub record Fitting (n : ℕ) (es : List Entry) : Type 0 where
+pub record ContentsFit (n : ℕ) (es : List StampedBody) : Type 0 where
   pub all : length es ≡ entries n
   pub few : n < 65536
   pub size : length (laid n es) < 4294967296
-  pub stamps : (e : Entry) → e ∈ es → e .stamp < 4294967296
+  pub stamps : (e : StampedBody) → e ∈ es → e .stamp < 4294967296
 
-module _ (n : ℕ) (es : List Entry) (fits : Fitting n es) where
+module _ (n : ℕ) (es : List StampedBody) (fits : ContentsFit n es) where
   pub laid-count : count (laid n es) ≡ n
   unfolding count numberAt laid
   laid-count = value-little 2 n (fits .few)
 
-  module _ (i : ℕ) (e : Entry) (stands : place es (suc i) ≡ some e) where
+  module _ (i : ℕ) (e : StampedBody) (stands : place es (suc i) ≡ some e) where
     abbrev start : ℕ
     start = startOf bodyOf (contentsEnd n) es i
 
@@ -76,7 +76,7 @@ module _ (n : ℕ) (es : List Entry) (fits : Fitting n es) where
   laid-entries = ap entries laid-count ∙ sym (fits .all)
 
   -- What stands for entry i.
-  entry-there : (i : ℕ) → i < entriesIn (laid n es) → (e : Entry) × (place es (suc i) ≡ some e)
+  entry-there : (i : ℕ) → i < entriesIn (laid n es) → (e : StampedBody) × (place es (suc i) ≡ some e)
   entry-there i h = place-some es i (omega (arith, laid-entries))
 
   laid-begins : (i : ℕ) → i < entriesIn (laid n es) → offsetAt (laid n es) i ≡ beginAt (laid n es) i

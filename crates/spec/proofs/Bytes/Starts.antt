@@ -7,11 +7,11 @@ use native.Mathlib.Omega.{arith}
 use lib.ListN.{length, drop, length-append}
 use lib.Seq.{drop-at}
 use Rattle.spec.specs.Summaries.{place, joined}
-use Rattle.spec.specs.BookLayout.{Entry, contentsFrom}
+use Rattle.spec.specs.BookLayout.{StampedBody, contentsFrom}
 use Rattle.spec.proofs.Lists.Places.{nothing}
 
 -- The bytes of an entry's body, as a part.
-abbrev pub bodyOf : Entry → List ℕ
+abbrev pub bodyOf : StampedBody → List ℕ
 bodyOf e = e .body
 
 module _ {A : Type 0} (write : A → List ℕ) where
@@ -45,7 +45,7 @@ module _ {A : Type 0} (write : A → List ℕ) where
       rw (← append-assoc front (write a) (joined (map write l))) (drop-parts (front ++ write a) (at + length (write a)) (omega (arith, length-append front (write a))) l i)
 
 -- "entries of 12 bytes"
-pub drop-contents : (at : ℕ) (es : List Entry) (rest : List ℕ) (i : ℕ) → i ≤ length es → drop (12 * i) (contentsFrom at es ++ rest) ≡ contentsFrom (startOf bodyOf at es i) (drop i es) ++ rest
+pub drop-contents : (at : ℕ) (es : List StampedBody) (rest : List ℕ) (i : ℕ) → i ≤ length es → drop (12 * i) (contentsFrom at es ++ rest) ≡ contentsFrom (startOf bodyOf at es i) (drop i es) ++ rest
 drop-contents at es rest zero h = refl
 drop-contents at [] rest (suc i) h = absurd (omega arith)
 drop-contents at (e ∷ es) rest (suc i) h =

@@ -29,18 +29,18 @@ module _ {X A : Type 0} (eX : Eq X) (eA : Eq A) (k : ℕ → A) (ts : List (Targ
   placings (g ∷ gs) b = gather (λ t. from (λ c. map (placed t) (placings gs c)) (meetFact eX eA k g (t .fact) b)) ts
 
   -- what each of them is
-  pub record Placed (gs : List (Subgoal (Term X))) (b : Bindings X A) (p : Placing X A) : Type 0 where
+  pub record PlacedOn (gs : List (Subgoal (Term X))) (b : Bindings X A) (p : Placing X A) : Type 0 where
     pub inside : (t : Target A) → t ∈ p .targets → t ∈ ts
     pub fine : Fine eX (k 0) b → Fine eX (k 0) (p .bindings)
     pub back : (σ : X → A) → Keeps σ (p .bindings) → Keeps σ b × (map (each (becomes k σ)) gs ≡ map (λ t. t .fact) (p .targets))
 
-  pub placings-sound : (gs : List (Subgoal (Term X))) (b : Bindings X A) (p : Placing X A) → p ∈ placings gs b → Placed gs b p
-  placings-sound [] b p m = subst (Placed [] b) (sym (List·Memᴰ·eq-of-singleton m)) record { inside = λ t i. absurd (List·Memᴰ·not-nil i); fine = λ f. f; back = λ σ h. (h, refl) }
+  pub placings-sound : (gs : List (Subgoal (Term X))) (b : Bindings X A) (p : Placing X A) → p ∈ placings gs b → PlacedOn gs b p
+  placings-sound [] b p m = subst (PlacedOn [] b) (sym (List·Memᴰ·eq-of-singleton m)) record { inside = λ t i. absurd (List·Memᴰ·not-nil i); fine = λ f. f; back = λ σ h. (h, refl) }
   placings-sound (g ∷ gs) b p m = go (λ c. placings-sound gs c) (gather-out (λ t. from (λ c. map (placed t) (placings gs c)) (meetFact eX eA k g (t .fact) b)) ts m)
     where
-      go : ((c : Bindings X A) (r : Placing X A) → r ∈ placings gs c → Placed gs c r)
-          → (t : Target A) × (t ∈ ts) × (p ∈ from (λ c. map (placed t) (placings gs c)) (meetFact eX eA k g (t .fact) b)) → Placed (g ∷ gs) b p
-      go rest w = subst (Placed (g ∷ gs) b) (v .2) record { inside = inside′; fine = λ f. r .fine (x .fine b c (u .1) f); back = back′ }
+      go : ((c : Bindings X A) (r : Placing X A) → r ∈ placings gs c → PlacedOn gs c r)
+          → (t : Target A) × (t ∈ ts) × (p ∈ from (λ c. map (placed t) (placings gs c)) (meetFact eX eA k g (t .fact) b)) → PlacedOn (g ∷ gs) b p
+      go rest w = subst (PlacedOn (g ∷ gs) b) (v .2) record { inside = inside′; fine = λ f. r .fine (x .fine b c (u .1) f); back = back′ }
         where
           t : Target A
           t = w .0
@@ -54,7 +54,7 @@ module _ {X A : Type 0} (eX : Eq X) (eA : Eq A) (k : ℕ → A) (ts : List (Targ
           v : (r : Placing X A) × (r ∈ placings gs c) × (placed t r ≡ p)
           v = Memᴰ·of-map (placed t) (placings gs c) (u .2)
 
-          r : Placed gs c (v .0)
+          r : PlacedOn gs c (v .0)
           r = rest c (v .0) (v .1)
 
           x : Exact eX (k 0) (λ σ. each (becomes k σ) g ≡ t .fact) (meetFact eX eA k g (t .fact))

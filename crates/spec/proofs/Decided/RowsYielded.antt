@@ -6,7 +6,7 @@ use Rattle.spec.specs.Words.{_∈_, Term, var, con, Subgoal, Rule, Safe,
 use Rattle.spec.proofs.Decided.Equal.{Eq}
 use Rattle.spec.proofs.Lists.Gathered.{map-same, same-map}
 use Rattle.spec.proofs.Decided.Bindings.{unbound, valued}
-use Rattle.spec.proofs.Decided.Placings.{Target, Placing, placings, Placed, placings-sound, Among, placings-complete}
+use Rattle.spec.proofs.Decided.Placings.{Target, Placing, placings, PlacedOn, placings-sound, Among, placings-complete}
 use Rattle.spec.proofs.Decided.Ways.{factOf, Way, way-yields, yields-way}
 use Rattle.spec.proofs.Decided.Decide.{unnamed, facts-unnamed}
 
@@ -36,7 +36,7 @@ module _ {A X : Type 0} (eX : Eq X) (eA : Eq A) (k : ℕ → A) (q : Rule X) (l 
           a : Among eX eA k (map unnamed l) (q .body) unbound (w .0) σ
           a = placings-complete eX eA k (map unnamed l) (q .body) unbound (w .0) σ (w .1 .inside) tt (w .1 .sends)
 
-          p : Placed eX eA k (map unnamed l) (q .body) unbound record { targets = w .0; bindings = a .bindings }
+          p : PlacedOn eX eA k (map unnamed l) (q .body) unbound record { targets = w .0; bindings = a .bindings }
           p = placings-sound eX eA k (map unnamed l) (q .body) unbound record { targets = w .0; bindings = a .bindings } (a .among)
 
           τ : X → A

@@ -13,7 +13,7 @@ use Rattle.spec.proofs.Examples.Written.{x0, x1, rule, on, stamped}
 use Rattle.spec.specs.BookLayout.{entries, contentsEnd, bookBytes}
 use Rattle.spec.proofs.Bytes.SoundTest.{book-sound}
 use Rattle.spec.specs.Refusals.{ofBook}
-use Rattle.spec.specs.Table.{mostRows, Fault9, Refused, ten}
+use Rattle.spec.specs.Table.{mostRows, Fault9, RewriterRefusal, ten}
 use Rattle.spec.specs.Given.{Given, written, answerBytes, witnessBytes}
 use Rattle.spec.proofs.Examples.TableExamples.{room, short-answer}
 
@@ -73,6 +73,6 @@ witness-written : witnessBytes result ≡ 1 ∷ 1 ∷ 1 ∷ 1 ∷ 2 ∷ []
 witness-written = refl
 
 -- The summary left out: nothing is left to rewrite with.
-refused-ten : Refused (laterBytes 4) 534 120 (ofBook 10)
+refused-ten : RewriterRefusal (laterBytes 4) 534 120 (ofBook 10)
 unfolding admitted bookBytes contentsEnd entries
 refused-ten = ten room (later 4) (book-sound (laterBytes 4) (later 4) tt) no-rows (answered-none (admittedOf (later 4)) (later 4 .question) (allSafe-sound (admittedOf (later 4)) tt) .0 refl)

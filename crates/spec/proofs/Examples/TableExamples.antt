@@ -18,7 +18,7 @@ use Rattle.spec.specs.Refusals.{ofBook, two}
 use Rattle.spec.proofs.Bytes.BookUnique.{book-unique}
 use Rattle.spec.proofs.Bytes.Refused.{sound-unrefused}
 use Rattle.spec.proofs.Bytes.SoundTest.{book-sound}
-use Rattle.spec.specs.Table.{answerRoom, witnessRoom, mostRows, Fault1, Fault9, Refused, one, read, nine}
+use Rattle.spec.specs.Table.{answerRoom, witnessRoom, mostRows, Fault1, Fault9, RewriterRefusal, one, read, nine}
 use Rattle.spec.specs.Given.{Given}
 
 -- "answer area below 534 bytes, or witness area below 120"
@@ -35,13 +35,13 @@ unfolding witnessRoom
 short-witness = inr (lit< tt)
 
 -- "Order: 1": before a book of one byte is refused with 2
-room-first : Refused (0 ∷ []) 533 120 (ofBook 1)
+room-first : RewriterRefusal (0 ∷ []) 533 120 (ofBook 1)
 room-first = one short-answer
 
-then-the-book : Refused (0 ∷ []) 534 120 (ofBook 2)
+then-the-book : RewriterRefusal (0 ∷ []) 534 120 (ofBook 2)
 then-the-book = read room (two (inl (lit< tt)))
 
-not-the-book : Refused (0 ∷ []) 533 120 (ofBook 2) → ⊥
+not-the-book : RewriterRefusal (0 ∷ []) 533 120 (ofBook 2) → ⊥
 not-the-book (read room r) = room short-answer
 
 -- () from 0(X0) to 0(X7), 1(X0); summary 1, (A,B) from 0(A), 0(B), has 64 rows, and summary 2, () from 1(A), has one more if its stamp admits it
@@ -88,7 +88,7 @@ too-many = record {
   many = lit< tt;
 }
 
-refused-65 : Refused (nineBytes 1) 534 120 (ofBook 9)
+refused-65 : RewriterRefusal (nineBytes 1) 534 120 (ofBook 9)
 refused-65 = nine room (nineSubgoals 1) sound-65 too-many
 
 not-given-65 : Given (nineBytes 1) 534 120 → ⊥
@@ -103,6 +103,6 @@ not-too-many : Fault9 (admittedOf (nineSubgoals 0)) (nineSubgoals 0 .question) �
 unfolding admitted
 not-too-many f = omega (arith, f .many, rows-64, rows-within (admittedOf (nineSubgoals 0)) (nineSubgoals 0 .question) (allSafe-sound (admittedOf (nineSubgoals 0)) tt) (f .rows) (f .each) (f .ascending))
 
-not-refused-64 : Refused (nineBytes 0) 534 120 (ofBook 9) → ⊥
+not-refused-64 : RewriterRefusal (nineBytes 0) 534 120 (ofBook 9) → ⊥
 not-refused-64 (read room r) = sound-unrefused sound-64 r
 not-refused-64 (nine room b s f) = not-too-many (subst (λ c. Fault9 (admittedOf c) (c .question)) (book-unique s sound-64) f)

@@ -17,17 +17,17 @@ use Rattle.spec.proofs.Decided.Safety.{allSafe, allSafe-sound}
 use Rattle.spec.proofs.Decided.Answered.{Answered, Right, answered, answered-is, answered-none}
 
 -- A book and what comes of it; none is refusal 10.
-pub record Sheet : Type 0 where
+pub record ValueSheet : Type 0 where
   pub book : Book
   pub expected : Option Answered
 
-abbrev pub computed : Sheet → Option Answered
+abbrev pub computed : ValueSheet → Option Answered
 computed s = answered (admittedOf (s .book)) (s .book .question)
 
-abbrev pub accepts : Book → List (Subgoal (Term ℕ)) → List ℕ → List ℕ → Sheet
+abbrev pub accepts : Book → List (Subgoal (Term ℕ)) → List ℕ → List ℕ → ValueSheet
 accepts b rows there back = record { book = b; expected = some record { rows = rows; there = there; back = back } }
 
-abbrev pub refused10 : Book → Sheet
+abbrev pub refused10 : Book → ValueSheet
 refused10 b = record { book = b; expected = none }
 
 -- Source 000, example 4.1: a is relation 0, b is 1; X, Y, Z are 0, 1, 2.
@@ -87,7 +87,7 @@ wrongC = at1 (1 ∷ 1 ∷ 1 ∷ 1 ∷ 1 ∷ 1 ∷ []) (over (0 ∷ 1 ∷ 2 ∷ 3
 abbrev wrongD : Book
 wrongD = at1 (2 ∷ []) (rule (x0 ∷ []) (on 0 (x0 ∷ con 0 ∷ []) ∷ [])) (rule (x0 ∷ []) (on 0 (x0 ∷ x0 ∷ []) ∷ []) ∷ [])
 
-unfoldable pub sheets : List Sheet
+unfoldable pub sheets : List ValueSheet
 sheets =
     accepts (bookA 4294967289) (on 1 (x0 ∷ x1 ∷ []) ∷ on 2 (x1 ∷ con 7 ∷ []) ∷ []) (1 ∷ 1 ∷ 2 ∷ 1 ∷ []) (1 ∷ 2 ∷ [])
     ∷ accepts (bookA 4294967290) (on 3 (x0 ∷ con 7 ∷ []) ∷ []) (1 ∷ 1 ∷ 1 ∷ 2 ∷ []) (1 ∷ 2 ∷ [])
@@ -122,7 +122,7 @@ sheets-safe : T (every (λ s. allSafe (admittedOf (s .book))) sheets)
 unfolding sheets admitted
 sheets-safe = tt
 
-pub meant : (s : Sheet) → s ∈ sheets → Meant (s .book) (s .expected)
+pub meant : (s : ValueSheet) → s ∈ sheets → Meant (s .book) (s .expected)
 meant s m = go (s .expected) (same-map computed (λ s. s .expected) sheets proved s m)
   where
     sound : AllSafe (admittedOf (s .book))

@@ -8,9 +8,9 @@ use Rattle.spec.specs.Words.{Rule}
 use Rattle.spec.proofs.Decided.Orders.{rowOrder}
 use Rattle.spec.proofs.Lists.Strict.{Strict}
 use Rattle.spec.proofs.Lists.Enumerate.{Enumerates, enumerates-first}
-use Rattle.codes.specs.Code.{termCode, wordsOf}
+use Rattle.codes.specs.Code.{termCode, codesOf}
 use Rattle.task.specs.Task.{Task}
-use Rattle.summary_rows.specs.RowsAfter.{RowBy, RowsAfter, Asked, Promised}
+use Rattle.summary_rows.specs.RowsAfter.{RowBy, RowsAfter, RowsNeeds, Promised}
 use Rattle.spec.specs.Table.{mostRows}
 use Rattle.summary_rows.specs.declared.Tally.{Tally}
 use Rattle.summary_rows.proofs.Residual.{first-of, none-of, rest-enumerates}
@@ -23,7 +23,7 @@ enumerates-once {A} {Before} o Ok (a ∷ l) m e f =
 
 module _ (n : ℕ) (v q : Rule ℕ) (found : ℕ) (before : List ℕ) where
   pub after-once : (after after′ : List ℕ) (r r′ : Tally) → RowsAfter n v q found before after r → RowsAfter n v q found before after′ r′ → (r ≡ r′) × (after ≡ after′)
-  after-once after after′ r r′ a b = (λ i. record { over = over i; count = count i }, a .words ∙ ap₂ (λ l c. take (9 * found) before ++ (wordsOf termCode (take (mostRows - found) l) ++ drop (9 * c) before)) same count ∙ sym (b .words))
+  after-once after after′ r r′ a b = (λ i. record { over = over i; count = count i }, a .codes ∙ ap₂ (λ l c. take (9 * found) before ++ (codesOf termCode (take (mostRows - found) l) ++ drop (9 * c) before)) same count ∙ sym (b .codes))
     where
       same : a .rows ≡ b .rows
       same = enumerates-once rowOrder (RowBy n v q) (a .rows) (b .rows) (a .all) (b .all)
@@ -34,7 +34,7 @@ module _ (n : ℕ) (v q : Rule ℕ) (found : ℕ) (before : List ℕ) where
       count : r .count ≡ r′ .count
       count = a .count ∙ ap (λ l. found + length (take (mostRows - found) l)) same ∙ sym (b .count)
 
--- Any two results that meet the promise are the same, and leave the same words.
-pub promised-once : (p : Task) (h n found area : ℕ) (before after after′ : List ℕ) (r r′ : Tally) → Asked p h found area → Promised p h n found before after r → Promised p h n found before after′ r′ → (r ≡ r′) × (after ≡ after′)
+-- Any two results that meet the promise are the same, and leave the same codes.
+pub promised-once : (p : Task) (h n found area : ℕ) (before after after′ : List ℕ) (r r′ : Tally) → RowsNeeds p h found area → Promised p h n found before after r → Promised p h n found before after′ r′ → (r ≡ r′) × (after ≡ after′)
 promised-once p h n found area before after after′ r r′ w a b =
     after-once n (w .rule) (w .question) found before after after′ r r′ (a .rows (w .rule) (w .question) (w .terms) (w .task)) (b .rows (w .rule) (w .question) (w .terms) (w .task))

@@ -17,7 +17,7 @@ use Rattle.task.specs.Follows.{Follows}
 use Rattle.search_meaning.proofs.Back.{places-from}
 use Rattle.book_codes.specs.Question.{QuestionTarget, QuestionBound}
 use Rattle.book_codes.proofs.Lent.{targets-few}
-use Rattle.book_codes.specs.UsesLent.{FromOf}
+use Rattle.book_codes.specs.UsesLent.{SourceUsesOf}
 use Rattle.book_codes.proofs.BackTask as back
 use Rattle.witness_check.specs.WayThere.Places.{nowhere}
 use Rattle.bits.proofs.Laws.{exactly-no}
@@ -25,11 +25,11 @@ use Rattle.witness_check.specs.WayBack.Places.{Before, BytePlaces}
 use Rattle.witness_check.proofs.WayBack.Named.{bytes-named, named-bytes}
 
 -- A part of another length is none.
-pub back-short : {book source widths lasts : List ℕ} (b : Book) (l : List (Subgoal (Term ℕ))) → FromOf book source widths lasts b l
+pub back-short : {book source widths lasts : List ℕ} (b : Book) (l : List (Subgoal (Term ℕ))) → SourceUsesOf book source widths lasts b l
     → {witness : List ℕ} → (length witness ≡ length widths → ⊥) → (false ≡ true) ↔ Back (admittedOf b) (b .question) (rewriting (b .question) l) witness
 back-short b l o {witness} h = exactly-no (λ t. h (back-long (admittedOf b) (b .question) (rewriting (b .question) l) witness t ∙ sym (ap length (o .wide) ∙ length-map (joined (uses (admittedOf b) 0 l)) _)))
 
-module _ {book source widths lasts : List ℕ} (b : Book) (l : List (Subgoal (Term ℕ))) (o : FromOf book source widths lasts b l) where
+module _ {book source widths lasts : List ℕ} (b : Book) (l : List (Subgoal (Term ℕ))) (o : SourceUsesOf book source widths lasts b l) where
   abbrev Returns : List ℕ → Type 0
   Returns = Back (admittedOf b) (b .question) (rewriting (b .question) l)
 

@@ -11,27 +11,27 @@ use Rattle.spec.specs.Book.{Book, admittedOf}
 use Rattle.codes.specs.Code.{ownCode}
 use Rattle.search_meaning.proofs.Owners.{uses-long}
 use Rattle.book_codes.specs.Insides.{starts}
-use Rattle.book_codes.specs.AllUses.{Counted, AllWords, AllOwners, AllInsides, AllStarts}
+use Rattle.book_codes.specs.AllUses.{GoalsCounted, AllCodes, AllOwners, AllInsides, AllStarts}
 use Rattle.book_codes.proofs.Beginnings.{starts-long}
 use Rattle.rule_codes.proofs.Stores.{front-again}
-use Rattle.book_codes.specs.FewRows.{FewOf, Few}
+use Rattle.book_codes.specs.FewRows.{FewRowsOf, FewRows}
 use Rattle.book_codes.proofs.Expanded.{onto-of}
 use Rattle.witness_check.specs.WayThere.Confirms.{ThereConfirms}
 use Rattle.witness_check.specs.WayThere.Steps.{StoodOf, Stood, StoodConfirms}
 
-module _ {book rows : List ℕ} {k n : ℕ} (counted : Counted book rows k n) {o₀ o w₀ w i₀ i s₀ s : List ℕ}
-    (words : AllWords book rows k ownCode w₀ w) (owns : AllOwners book rows k o₀ o) (inners : AllInsides book rows k i₀ i) (begins : AllStarts book rows k s₀ s) where
-  stood-of : (b : Book) (l : List (Subgoal (Term ℕ))) → FewOf book rows k b l → StoodOf book (take (9 * n) w) (take n o) s k b l
+module _ {book rows : List ℕ} {k n : ℕ} (counted : GoalsCounted book rows k n) {o₀ o w₀ w i₀ i s₀ s : List ℕ}
+    (codes : AllCodes book rows k ownCode w₀ w) (owns : AllOwners book rows k o₀ o) (inners : AllInsides book rows k i₀ i) (begins : AllStarts book rows k s₀ s) where
+  stood-of : (b : Book) (l : List (Subgoal (Term ℕ))) → FewRowsOf book rows k b l → StoodOf book (take (9 * n) w) (take n o) s k b l
   stood-of b l t =
-      let a = onto-of counted words owns inners b l t in record {
+      let a = onto-of counted codes owns inners b l t in record {
         list = a .list;
         count = t .rows-of .count;
-        words = a .words;
+        codes = a .codes;
         owns = a .owns;
         begin = front-again (starts 0 (uses (admittedOf b) 0 l)) s₀ s (k + 1) (begins .is b l (t .rows-of)) (starts-long 0 (uses (admittedOf b) 0 l) ∙ ap (λ m. m + 1) (uses-long (admittedOf b) 0 l ∙ t .rows-of .count));
       }
 
-  pub stood : Few book rows k → Stood book (take (9 * n) w) (take n o) s k
+  pub stood : FewRows book rows k → Stood book (take (9 * n) w) (take n o) s k
   stood t = record { value = t .value; list = t .list; is = stood-of (t .value) (t .list) (t .is) }
 
   pub there-confirmed : {witness : List ℕ} {r : Bool} → StoodConfirms book (take (9 * n) w) (take n o) s k witness r → ThereConfirms book rows k witness r

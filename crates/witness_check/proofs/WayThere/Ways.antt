@@ -22,7 +22,7 @@ use Rattle.search_meaning.proofs.Pairs.{pairs-places}
 use Rattle.book_codes.specs.Insides.{insides, starts}
 use Rattle.book_codes.specs.Question.{SomeSound, QuestionSource, QuestionBound}
 use Rattle.book_codes.proofs.Lent.{goals-few, source-widths}
-use Rattle.book_codes.specs.UsesLent.{OntoOf}
+use Rattle.book_codes.specs.UsesLent.{TargetUsesOf}
 use Rattle.book_codes.proofs.ThereTask as there
 use Rattle.bits.proofs.Laws.{exactly-no}
 use Rattle.witness_check.specs.WayThere.Places.{nowhere, PlaceOf, PairPlaces}
@@ -40,8 +40,8 @@ module _ {book target own begins : List ℕ} {k : ℕ} (b : Book) (l : List (Sub
   abbrev ls : List (List (Subgoal (Term (Own ℕ))))
   ls = uses (admittedOf b) 0 l
 
-  abbrev pub onto : OntoOf book target own (insides (uses (admittedOf b) 0 l)) b l
-  onto = record { list = o .list; words = o .words; owns = o .owns; inners = refl }
+  abbrev pub onto : TargetUsesOf book target own (insides (uses (admittedOf b) 0 l)) b l
+  onto = record { list = o .list; codes = o .codes; owns = o .owns; inners = refl }
 
   abbrev Goes : List ℕ → Type 0
   Goes = There (admittedOf b) (b .question) (rewriting (b .question) l)

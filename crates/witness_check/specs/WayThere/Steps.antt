@@ -1,4 +1,4 @@
--- The uses of rows as words, between the steps.
+-- The uses of rows as codes, between the steps.
 use mathlib.Core.Path.{_≡_}
 use mathlib.Core.Bool.{Bool, true}
 use mathlib.Core.Logic.{_↔_}
@@ -9,17 +9,17 @@ use Rattle.spec.specs.Words.{Term, Subgoal}
 use Rattle.spec.specs.Summaries.{rewriting, uses, joined}
 use Rattle.spec.specs.Answer.{There}
 use Rattle.spec.specs.Book.{Book, admittedOf}
-use Rattle.codes.specs.Code.{ownCode, wordsOf}
+use Rattle.codes.specs.Code.{ownCode, codesOf}
 use Rattle.choice_theory.specs.Placed.{owners}
 use Rattle.book_codes.specs.Insides.{starts}
 use Rattle.book_codes.specs.FewRows.{ListOf}
 
 module _ (book target own begins : List ℕ) (k : ℕ) where
-  -- as targets: words, the use of each, and where each use begins
+  -- as targets: codes, the use of each, and where each use begins
   pub record StoodOf (b : Book) (l : List (Subgoal (Term ℕ))) : Type 0 where
     pub list : ListOf book b l
     pub count : length l ≡ k
-    pub words : target ≡ wordsOf ownCode (joined (uses (admittedOf b) 0 l))
+    pub codes : target ≡ codesOf ownCode (joined (uses (admittedOf b) 0 l))
     pub owns : own ≡ owners 0 (uses (admittedOf b) 0 l)
     pub begin : take (k + 1) begins ≡ starts 0 (uses (admittedOf b) 0 l)
 

@@ -4,7 +4,7 @@ use native.Mathlib.Omega.{arith}
 use borrow.Author.Needs.{needs}
 use lib.ListN.{length, take, drop, getD, set, length-set}
 use lib.Seq.{sets, length-sets}
-use Rattle.answer.specs.Bytes.{wordBytes, wordsBytes, rowBytes, rowsBytes}
+use Rattle.answer.specs.Bytes.{codeBytes, codesBytes, rowBytes, rowsBytes}
 use Rattle.answer.proofs.RuleStores.{byte-stored}
 use Rattle.answer.proofs.rule_bytes.put_bytes.Statement.{statement}
 use Rattle.answer.proofs.rule_bytes.put_bytes.Tie as tie

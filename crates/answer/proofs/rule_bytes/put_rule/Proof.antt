@@ -35,12 +35,12 @@ returns : tie.Need-returns
 returns c =
     let w = c .before .before .before .before .before .before .before .before .before .before .before .before .before .before .pre in let a = c .before .before .before .before .before .before .before .before .before .before .before .before .before .before .args in
     let e = c .before .before .put-rows .ensures in (
-      e .0 ∙ ap (λ o. sets o (2 + 5 * getD (a .body .now) 0 0) (rowsBytes (a .words .now) (a .widths .now) 0 (a .k))) (c .before .before .before .before .before .before .put-bytes .ensures) ∙ rule-stored (a .body .now) (a .words .now) (a .widths .now) (a .k) (w .head) _,
-      e .1 ∙ rule-place (a .body .now) (a .words .now) (a .widths .now) (a .k) (w .head),
+      e .0 ∙ ap (λ o. sets o (2 + 5 * getD (a .body .now) 0 0) (rowsBytes (a .codes .now) (a .widths .now) 0 (a .k))) (c .before .before .before .before .before .before .put-bytes .ensures) ∙ rule-stored (a .body .now) (a .codes .now) (a .widths .now) (a .k) (w .head) _,
+      e .1 ∙ rule-place (a .body .now) (a .codes .now) (a .widths .now) (a .k) (w .head),
     )
 
 same-length : tie.Need-same-length
-same-length c = let w = c .before .before .before .before .before .before .before .before .before .before .before .before .before .before .pre in let a = c .before .before .before .before .before .before .before .before .before .before .before .before .before .before .args in ap length (returns c .0) ∙ length-sets (a .out .now) 0 (rewritingBytes (a .body .now) (a .words .now) (a .widths .now) (a .k))
+same-length c = let w = c .before .before .before .before .before .before .before .before .before .before .before .before .before .before .pre in let a = c .before .before .before .before .before .before .before .before .before .before .before .before .before .before .args in ap length (returns c .0) ∙ length-sets (a .out .now) 0 (rewritingBytes (a .body .now) (a .codes .now) (a .widths .now) (a .k))
 
 pub put-rule-spec : {M : Type 1} → statement M
 put-rule-spec =

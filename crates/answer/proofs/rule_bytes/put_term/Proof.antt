@@ -31,7 +31,7 @@ slice-write-out-5 c = simp length-set (omega arith)
 
 -- src/lib.rt:16:1
 returns : tie.Need-returns
-returns c = let a = c .before .before .args in five (a .out .now) (a .at) (c .tag-byte .result) _ _ _ _ ∙ ap (λ t. sets (a .out .now) (a .at) (t ∷ little 4 (a .word % 4294967296))) (c .tag-byte .ensures)
+returns c = let a = c .before .before .args in five (a .out .now) (a .at) (c .tag-byte .result) _ _ _ _ ∙ ap (λ t. sets (a .out .now) (a .at) (t ∷ little 4 (a .code % 4294967296))) (c .tag-byte .ensures)
 
 pub put-term-spec : {M : Type 1} → statement M
 put-term-spec =

@@ -4,7 +4,7 @@ use native.Mathlib.Omega.{arith}
 use borrow.Author.Needs.{needs}
 use lib.ListN.{length, take, drop, getD}
 use lib.Seq.{sets, length-sets}
-use Rattle.answer.specs.Bytes.{wordBytes, wordsBytes}
+use Rattle.answer.specs.Bytes.{codeBytes, codesBytes}
 use Rattle.answer.proofs.RuleStores.{term-stored, terms-done}
 use Rattle.answer.proofs.rule_bytes.put_terms.Statement.{statement}
 use Rattle.answer.proofs.rule_bytes.put_terms.Tie as tie
@@ -14,10 +14,10 @@ use Rattle.answer.proofs.rule_bytes.put_term.Reads as put-term-reads
 
 -- the terms so far are stored
 abbrev Inv-loop : tie.InvT-loop
-Inv-loop out₀ at words from k i₀ out i = (i ≤ k) × (length out ≡ length out₀) × (out ≡ sets out₀ at (wordsBytes (take i (drop from words))))
+Inv-loop out₀ at codes from k i₀ out i = (i ≤ k) × (length out ≡ length out₀) × (out ≡ sets out₀ at (codesBytes (take i (drop from codes))))
 
 abbrev μ-loop : tie.MeasureT-loop
-μ-loop out₀ at words from k i₀ out i = k - i
+μ-loop out₀ at codes from k i₀ out i = k - i
 
 loop-holds : tie.Need-loop-holds Inv-loop μ-loop
 loop-holds c = (omega arith, refl, refl)
@@ -30,14 +30,14 @@ loop-again c =
     let a = c .before .before .before .before .before .before .before .before .before .args in
     let l = c .before .before .before .before .before .before .loop in
     let e = c .before .before .put-term .ensures in
-    let stored = e ∙ ap (λ o. sets o (a .at + 5 * l .i) (wordBytes (getD (a .words .now) (a .from + l .i) 0))) (l .inv .2) ∙ term-stored (a .out .now) (a .words .now) (a .at) (a .from) (l .i) (omega arith) in
-    (omega arith, ap length stored ∙ length-sets (a .out .now) (a .at) (wordsBytes (take (l .i + 1) (drop (a .from) (a .words .now)))), stored)
+    let stored = e ∙ ap (λ o. sets o (a .at + 5 * l .i) (codeBytes (getD (a .codes .now) (a .from + l .i) 0))) (l .inv .2) ∙ term-stored (a .out .now) (a .codes .now) (a .at) (a .from) (l .i) (omega arith) in
+    (omega arith, ap length stored ∙ length-sets (a .out .now) (a .at) (codesBytes (take (l .i + 1) (drop (a .from) (a .codes .now)))), stored)
 
 returns : tie.Need-returns Inv-loop μ-loop
 returns c =
     let a = c .before .before .before .before .args in
     let l = c .before .loop in
-    l .inv .2 ∙ terms-done (a .out .now) (a .words .now) (a .at) (a .from) (a .k) (l .i) (omega arith)
+    l .inv .2 ∙ terms-done (a .out .now) (a .codes .now) (a .at) (a .from) (a .k) (l .i) (omega arith)
 
 pub put-terms-spec : {M : Type 1} → statement M
 put-terms-spec =

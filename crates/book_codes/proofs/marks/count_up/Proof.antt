@@ -2,12 +2,12 @@ use borrow.Author.Needs.{needs}
 use Prim.Native.Nat.{_≤_, _-_}
 use native.Mathlib.Omega.{arith}
 use Rattle.spec.proofs.Lists.Counted.{counted}
-use Rattle.book_codes.proofs.Stored.{Stored, store-starts, store-long, store-goes, store-ends, counted-long, counted-up}
+use Rattle.book_codes.proofs.Stored.{NumbersStored, store-starts, store-long, store-goes, store-ends, counted-long, counted-up}
 use Rattle.book_codes.proofs.marks.count_up.Statement.{statement}
 use Rattle.book_codes.proofs.marks.count_up.Tie as tie
 
 abbrev Inv-loop : tie.InvT-loop
-Inv-loop area₀ at many k₀ area k = (k ≤ many) × Stored area₀ at (counted 0 many) k area
+Inv-loop area₀ at many k₀ area k = (k ≤ many) × NumbersStored area₀ at (counted 0 many) k area
 
 abbrev μ-loop : tie.MeasureT-loop
 μ-loop area₀ at many k₀ area k = many - k

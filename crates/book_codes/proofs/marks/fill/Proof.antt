@@ -2,12 +2,12 @@ use borrow.Author.Needs.{needs}
 use Prim.Native.Nat.{_≤_, _-_}
 use native.Mathlib.Omega.{arith}
 use lib.ListN.{replicate, length-replicate}
-use Rattle.book_codes.proofs.Stored.{Stored, store-starts, store-long, store-goes, store-ends, filled}
+use Rattle.book_codes.proofs.Stored.{NumbersStored, store-starts, store-long, store-goes, store-ends, filled}
 use Rattle.book_codes.proofs.marks.fill.Statement.{statement}
 use Rattle.book_codes.proofs.marks.fill.Tie as tie
 
 abbrev Inv-loop : tie.InvT-loop
-Inv-loop area₀ at many number k₀ area k = (k ≤ many) × Stored area₀ at (replicate many number) k area
+Inv-loop area₀ at many number k₀ area k = (k ≤ many) × NumbersStored area₀ at (replicate many number) k area
 
 abbrev μ-loop : tie.MeasureT-loop
 μ-loop area₀ at many number k₀ area k = many - k

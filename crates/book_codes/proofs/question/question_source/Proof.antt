@@ -14,8 +14,8 @@ part-of-requires-2 c κs =
     let w = c .before .before .before .before .pre in
     first-part (w .0)
 
-slot-words-requires : tie.Need-slot-words-requires
-slot-words-requires c κs =
+slot-codes-requires : tie.Need-slot-codes-requires
+slot-codes-requires c κs =
     let part-of2 = c .before .before .part-of2 in
     let part-of = c .before .before .before .part-of in
     let w = c .before .before .before .before .before .before .before .pre in
@@ -23,11 +23,11 @@ slot-words-requires c κs =
 
 returns : tie.Need-returns
 returns c =
-    let slot-words = c .before .before .before .before .slot-words in
+    let slot-codes = c .before .before .before .before .slot-codes in
     let part-of2 = c .before .before .before .before .before .before .before .part-of2 in
     let part-of = c .before .before .before .before .before .before .before .before .part-of in
     let w = c .before .before .before .before .before .before .before .before .before .before .before .before .pre in
-    source-is (w .0) (part-of .ensures) (part-of2 .ensures) (slot-words .ensures .0) (slot-words .ensures .1)
+    source-is (w .0) (part-of .ensures) (part-of2 .ensures) (slot-codes .ensures .0) (slot-codes .ensures .1)
 
 pub question-source-spec : {M : Type 1} → statement M
 question-source-spec =
@@ -35,7 +35,7 @@ question-source-spec =
     (tie.spec
     part-of-requires
     part-of-requires-2
-    slot-words-requires
+    slot-codes-requires
     (λ c. search needs)
     (λ c. search needs)
     returns)

@@ -14,8 +14,8 @@ part-of-requires-2 c κs =
     let w = c .before .before .before .pre in
     first-part (w .0)
 
-term-words-requires : tie.Need-term-words-requires
-term-words-requires c κs =
+term-codes-requires : tie.Need-term-codes-requires
+term-codes-requires c κs =
     let part-of2 = c .before .before .part-of2 in
     let part-of = c .before .before .before .part-of in
     let w = c .before .before .before .before .before .before .pre in
@@ -23,11 +23,11 @@ term-words-requires c κs =
 
 returns : tie.Need-returns
 returns c =
-    let term-words = c .before .before .before .term-words in
+    let term-codes = c .before .before .before .term-codes in
     let part-of2 = c .before .before .before .before .before .before .part-of2 in
     let part-of = c .before .before .before .before .before .before .before .part-of in
     let w = c .before .before .before .before .before .before .before .before .before .before .pre in
-    target-is (w .0) (part-of .ensures) (part-of2 .ensures) (term-words .ensures .0)
+    target-is (w .0) (part-of .ensures) (part-of2 .ensures) (term-codes .ensures .0)
 
 pub question-target-spec : {M : Type 1} → statement M
 question-target-spec =
@@ -36,6 +36,6 @@ question-target-spec =
     part-of-requires
     part-of-requires-2
     (λ c. search needs)
-    term-words-requires
+    term-codes-requires
     (λ c. search needs)
     returns)

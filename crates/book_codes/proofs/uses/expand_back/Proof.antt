@@ -6,21 +6,20 @@ use lib.ListN.{length, length-take, length-drop}
 use Rattle.codes.specs.Code.{ownSlot}
 use Rattle.search_meaning.specs.Uses.{endOf}
 use Rattle.search_meaning.proofs.UseOf.{end-long}
-use Rattle.rule_codes.proofs.WordLaws.{words-length}
-use Rattle.book_codes.proofs.Spread.{wordsEach, widthsEach, endEach, words-spread, widths-spread, ends-spread}
-use Rattle.codes.proofs.Padded.{widths-length}
-use Rattle.book_codes.proofs.Growing.{Reached, SoFar, row-there, rows-room, reach-starts, so-starts, use-goals, words-added, widths-added, numbers-added, reach-goes, so-goes, reach-ends, so-ends}
+use Rattle.codes.proofs.Padded.{codes-length, widths-length}
+use Rattle.book_codes.proofs.Spread.{codesEach, widthsEach, endEach, codes-spread, widths-spread, ends-spread}
+use Rattle.book_codes.proofs.Growing.{GoalsReached, RowsWritten, row-there, rows-room, reach-starts, so-starts, use-goals, codes-added, widths-added, numbers-added, reach-goes, so-goes, reach-ends, so-ends}
 use Rattle.book_codes.proofs.uses.expand_back.Statement.{statement}
 use Rattle.book_codes.proofs.uses.expand_back.Tie as tie
 
 abbrev Inv-loop : tie.InvT-loop
-Inv-loop book rows n out₀ widths₀ lasts₀ at₀ r₀ out widths lasts at r = (r ≤ n) × Reached book rows n r at × SoFar book rows n (wordsEach ownSlot) out₀ r out × SoFar book rows n widthsEach widths₀ r widths × SoFar book rows n endEach lasts₀ r lasts
+Inv-loop book rows n out₀ widths₀ lasts₀ at₀ r₀ out widths lasts at r = (r ≤ n) × GoalsReached book rows n r at × RowsWritten book rows n (codesEach ownSlot) out₀ r out × RowsWritten book rows n widthsEach widths₀ r widths × RowsWritten book rows n endEach lasts₀ r lasts
 
 abbrev μ-loop : tie.MeasureT-loop
 μ-loop book rows n out₀ widths₀ lasts₀ at₀ r₀ out widths lasts at r = n - r
 
 loop-holds : tie.Need-loop-holds Inv-loop μ-loop
-loop-holds c = (omega arith, reach-starts, so-starts (wordsEach ownSlot) _, so-starts widthsEach _, so-starts endEach _)
+loop-holds c = (omega arith, reach-starts, so-starts (codesEach ownSlot) _, so-starts widthsEach _, so-starts endEach _)
 
 sub-slot-use : tie.Need-sub-slot-use Inv-loop μ-loop
 sub-slot-use c = omega (arith, rows-room (c .before .before .before .before .before .before .before .pre .0))
@@ -46,15 +45,15 @@ loop-again c =
     let given = c .before .before .before .before .before .before .before .before .before .before .before .before .before .before .before .before .before .before .before .pre .0 in
     let inv = c .before .before .before .before .before .before .before .before .before .before .before .before .before .loop .inv in
     let turn = c .before .before .before .before .before .before .before .before .before .before .before .before .loop-test .taken in
-    let words = c .before .before .before .before .before .before .before .before .slot-use .ensures .0 _ in
-    let goals = use-goals turn words in
+    let codes = c .before .before .before .before .before .before .before .before .slot-use .ensures .0 _ in
+    let goals = use-goals turn codes in
     let f = inv .1 .few in
-    let g = words .few in
+    let g = codes .few in
     let long = inv .2 .long in
     let wide = inv .3 .long in (
       omega arith,
       reach-goes turn (inv .1) goals,
-      so-goes turn (inv .1) goals (wordsEach ownSlot) 9 (λ u m. words-length ownSlot m) refl (omega arith) given (inv .2) (words-added turn words (omega arith)),
+      so-goes turn (inv .1) goals (codesEach ownSlot) 9 (λ u m. codes-length ownSlot m) refl (omega arith) given (inv .2) (codes-added turn codes (omega arith)),
       so-goes turn (inv .1) goals widthsEach 1 (λ u m. omega (arith, widths-length m)) (omega arith) (omega arith) given (inv .3) (widths-added turn (c .before .before .before .before .before .before .before .before .slot-use .ensures .1) goals (omega arith)),
       so-goes turn (inv .1) goals endEach 1 (λ u m. omega (arith, end-long (length m))) (omega arith) (omega arith) given (inv .4) (numbers-added turn (λ u k. endOf k) goals (c .before .before .mark-end .ensures)),
     )
@@ -73,7 +72,7 @@ returns c =
     let inv = c .before .loop .inv in
     let end = c .loop-test .left in (
       reach-ends end (inv .1),
-      record { is = so-ends end _ (words-spread ownSlot 0) (inv .2) },
+      record { is = so-ends end _ (codes-spread ownSlot 0) (inv .2) },
       record { is = so-ends end _ (widths-spread 0) (inv .3) },
       record { is = so-ends end _ (ends-spread 0) (inv .4) },
     )

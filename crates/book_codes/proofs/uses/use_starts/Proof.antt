@@ -3,13 +3,13 @@ use Prim.Native.Nat.{_≤_, _-_}
 use mathlib.Core.Path.{_∙_}
 use native.Mathlib.Omega.{arith}
 use lib.ListN.{length-set}
-use Rattle.book_codes.proofs.Growing.{Reached, row-there, rows-room, reach-starts, reach-goes}
+use Rattle.book_codes.proofs.Growing.{GoalsReached, row-there, rows-room, reach-starts, reach-goes}
 use Rattle.book_codes.proofs.Beginnings.{Begun, count-goals, begun-starts, begun-goes, begun-ends}
 use Rattle.book_codes.proofs.uses.use_starts.Statement.{statement}
 use Rattle.book_codes.proofs.uses.use_starts.Tie as tie
 
 abbrev Inv-loop : tie.InvT-loop
-Inv-loop book rows n starts₀ at₀ r₀ starts at r = (r ≤ n) × Reached book rows n r at × Begun book rows n starts₀ r starts
+Inv-loop book rows n starts₀ at₀ r₀ starts at r = (r ≤ n) × GoalsReached book rows n r at × Begun book rows n starts₀ r starts
 
 abbrev μ-loop : tie.MeasureT-loop
 μ-loop book rows n starts₀ at₀ r₀ starts at r = n - r

@@ -7,10 +7,10 @@ use Rattle.checker.proofs.tests.all_admitted.Statement.{statement}
 use Rattle.checker.proofs.tests.all_admitted.Tie as tie
 
 abbrev Inv-loop : tie.InvT-loop
-Inv-loop book words count i₀ i = (i ≤ count) × AdmittedTo book words i
+Inv-loop book codes count i₀ i = (i ≤ count) × AdmittedTo book codes i
 
 abbrev μ-loop : tie.MeasureT-loop
-μ-loop book words count i₀ i = count - i
+μ-loop book codes count i₀ i = count - i
 
 loop-holds : tie.Need-loop-holds Inv-loop μ-loop
 loop-holds c =

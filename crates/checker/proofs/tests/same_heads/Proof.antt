@@ -14,13 +14,13 @@ Inv-loop a b x y k₀ k = (k ≤ 8) × ((j : ℕ) → j < k → getD x j 0 ≡ g
 abbrev μ-loop : tie.MeasureT-loop
 μ-loop a b x y k₀ k = 8 - k
 
-head-words-requires : tie.Need-head-words-requires Inv-loop μ-loop
-head-words-requires c κs =
+head-codes-requires : tie.Need-head-codes-requires Inv-loop μ-loop
+head-codes-requires c κs =
     let w = c .before .before .pre in
     w .0
 
-head-words-requires-2 : tie.Need-head-words-requires-2 Inv-loop μ-loop
-head-words-requires-2 c κs =
+head-codes-requires-2 : tie.Need-head-codes-requires-2 Inv-loop μ-loop
+head-codes-requires-2 c κs =
     let w = c .before .before .before .pre in
     w .1
 
@@ -32,9 +32,9 @@ returns : tie.Need-returns Inv-loop μ-loop
 returns c =
     let if1 = c .if1 in
     let l = c .before .before .loop in
-    let head-words2 = c .before .before .before .head-words2 in
-    let head-words = c .before .before .before .before .head-words in
-    heads-differ (head-words .ensures) (head-words2 .ensures) (l .k) (if1 .taken)
+    let head-codes2 = c .before .before .before .head-codes2 in
+    let head-codes = c .before .before .before .before .head-codes in
+    heads-differ (head-codes .ensures) (head-codes2 .ensures) (l .k) (if1 .taken)
 
 loop-again : tie.Need-loop-again Inv-loop μ-loop
 loop-again c =
@@ -45,9 +45,9 @@ loop-again c =
 returns-2 : tie.Need-returns-2 Inv-loop μ-loop
 returns-2 c =
     let l = c .before .loop in
-    let head-words2 = c .before .before .head-words2 in
-    let head-words = c .before .before .before .head-words in
-    heads-same (head-words .ensures) (head-words2 .ensures) (λ j h. l .inv .1 j (omega arith))
+    let head-codes2 = c .before .before .head-codes2 in
+    let head-codes = c .before .before .before .head-codes in
+    heads-same (head-codes .ensures) (head-codes2 .ensures) (λ j h. l .inv .1 j (omega arith))
 
 pub same-heads-spec : {M : Type 1} → statement M
 same-heads-spec =
@@ -55,8 +55,8 @@ same-heads-spec =
     (tie.spec
     Inv-loop
     μ-loop
-    head-words-requires
-    head-words-requires-2
+    head-codes-requires
+    head-codes-requires-2
     loop-holds
     (λ c. search needs)
     (λ c. search needs)

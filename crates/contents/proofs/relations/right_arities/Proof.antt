@@ -1,13 +1,13 @@
 use borrow.Author.Needs.{needs}
 use Prim.Native.Nat.{_-_, _≤_}
 use native.Mathlib.Omega.{arith}
-use Rattle.contents.proofs.Arities.ArityWalk.{InRange, range-none, range-more, in-range, arity-at}
+use Rattle.contents.proofs.Arities.ArityWalk.{AritiesInRange, range-none, range-more, in-range, arity-at}
 use Rattle.contents.proofs.relations.right_arities.Statement.{statement}
 use Rattle.contents.proofs.relations.right_arities.Tie as tie
 
 -- Each byte passed is an arity.
 abbrev Inv-loop : tie.InvT-loop
-Inv-loop part many i₀ i = (i ≤ many) × InRange part i
+Inv-loop part many i₀ i = (i ≤ many) × AritiesInRange part i
 
 abbrev μ-loop : tie.MeasureT-loop
 μ-loop part many i₀ i = many - i

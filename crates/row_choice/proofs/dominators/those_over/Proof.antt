@@ -3,12 +3,12 @@ use Prim.Native.Nat.{_≤_, _-_}
 use mathlib.Core.Path.{_∙_}
 use mathlib.Core.Logic.{⊎-elim}
 use native.Mathlib.Omega.{arith}
-use Rattle.row_choice.proofs.AgainstSteps.{Passed, against-few, in-order, part-inside, part-small, some-pair, passed-starts, passed-adds, passed-skips, passed-ends}
+use Rattle.row_choice.proofs.AgainstSteps.{RowsCompared, against-few, in-order, part-inside, part-small, some-pair, passed-starts, passed-adds, passed-skips, passed-ends}
 use Rattle.row_choice.proofs.dominators.those_over.Statement.{statement}
 use Rattle.row_choice.proofs.dominators.those_over.Tie as tie
 
 abbrev Inv-loop : tie.InvT-loop
-Inv-loop source widths target starts n set₀ d₀ set d = (d ≤ n) × Passed source widths target starts n d set
+Inv-loop source widths target starts n set₀ d₀ set d = (d ≤ n) × RowsCompared source widths target starts n d set
 
 abbrev μ-loop : tie.MeasureT-loop
 μ-loop source widths target starts n set₀ d₀ set d = n - d

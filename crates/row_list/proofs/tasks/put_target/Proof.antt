@@ -1,7 +1,7 @@
 use borrow.Author.Needs.{needs}
 use mathlib.Core.Path.{refl, sym}
 use native.Mathlib.Omega.{arith}
-use Rattle.row_list.proofs.TargetSteps.{terms-few, terms-long, shown-long, terms-room, target-part, target-room, target-goals, target-words, widths-room}
+use Rattle.row_list.proofs.TargetSteps.{terms-few, terms-long, shown-long, terms-room, target-part, target-room, target-goals, target-codes, widths-room}
 use Rattle.row_list.proofs.tasks.put_target.Statement.{statement}
 use Rattle.row_list.proofs.tasks.put_target.Tie as tie
 
@@ -20,40 +20,40 @@ put-alone-requires c κs =
     let w = c .before .before .before .before .before .before .before .before .pre in let t = c .before .before .before .body-terms .ensures in
     terms-room (w .0) refl t (w .1)
 
-mul-term-words : tie.Need-mul-term-words
-mul-term-words c =
+mul-term-codes : tie.Need-mul-term-codes
+mul-term-codes c =
     let w = c .before .before .before .before .before .before .before .before .before .before .before .pre in let t = c .before .before .before .before .before .before .body-terms .ensures in
     omega (arith, terms-few (w .0) refl t)
 
-mul-term-words-2 : tie.Need-mul-term-words-2
-mul-term-words-2 c =
+mul-term-codes-2 : tie.Need-mul-term-codes-2
+mul-term-codes-2 c =
     let w = c .before .before .before .before .before .before .before .before .before .before .before .pre in let t = c .before .before .before .before .before .before .body-terms .ensures in
     omega (arith, terms-few (w .0) refl t)
 
-sub-term-words : tie.Need-sub-term-words
-sub-term-words c =
+sub-term-codes : tie.Need-sub-term-codes
+sub-term-codes c =
     let w = c .before .before .before .before .before .before .before .before .before .before .before .pre in let t = c .before .before .before .before .before .before .body-terms .ensures in let e = c .before .before .put-alone .ensures in
     target-part (w .0) refl t _ _ (w .1) e
 
-part-term-words-start : tie.Need-part-term-words-start
-part-term-words-start c =
+part-term-codes-start : tie.Need-part-term-codes-start
+part-term-codes-start c =
     let w = c .before .before .before .before .before .before .before .before .before .before .before .pre in let t = c .before .before .before .before .before .before .body-terms .ensures in let e = c .before .before .put-alone .ensures in
     target-part (w .0) refl t _ _ (w .1) e
 
-term-words-requires : tie.Need-term-words-requires
-term-words-requires c κs =
+term-codes-requires : tie.Need-term-codes-requires
+term-codes-requires c κs =
     let w = c .before .before .before .before .before .before .before .before .before .before .before .before .before .pre in let t = c .before .before .before .before .before .before .before .before .body-terms .ensures in let e = c .before .before .before .before .put-alone .ensures in
     (target-room (w .0) refl t _ _ (w .1) e, widths-room (w .0))
 
 add-result : tie.Need-add-result
 add-result c =
     let w = c .before .before .before .before .before .before .before .before .before .before .before .before .before .before .before .before .before .pre in let t = c .before .before .before .before .before .before .before .before .before .before .before .before .body-terms .ensures in let e = c .before .before .before .before .before .before .before .before .put-alone .ensures in
-    omega (arith, target-goals (w .0) refl t _ _ (w .1) e (c .before .before .before .term-words .ensures .0))
+    omega (arith, target-goals (w .0) refl t _ _ (w .1) e (c .before .before .before .term-codes .ensures .0))
 
 returns : tie.Need-returns
 returns c =
     let w = c .before .before .before .before .before .before .before .before .before .before .before .before .before .before .before .before .before .pre in let t = c .before .before .before .before .before .before .before .before .before .before .before .before .body-terms .ensures in let e = c .before .before .before .before .before .before .before .before .put-alone .ensures in
-    target-words (w .0) refl t _ _ (w .1) e (c .before .before .before .term-words .ensures .0)
+    target-codes (w .0) refl t _ _ (w .1) e (c .before .before .before .term-codes .ensures .0)
 
 pub put-target-spec : {M : Type 1} → statement M
 put-target-spec =
@@ -64,13 +64,13 @@ put-target-spec =
     array-share-prefix-terms
     slice-aggregate-put-alone
     put-alone-requires
-    mul-term-words
-    mul-term-words-2
-    sub-term-words
-    part-term-words-start
+    mul-term-codes
+    mul-term-codes-2
+    sub-term-codes
+    part-term-codes-start
     (λ c. search needs)
     (λ c. search needs)
-    term-words-requires
+    term-codes-requires
     add-result
     (λ c. search needs)
     returns)

@@ -1,14 +1,14 @@
 use borrow.Author.Needs.{needs}
 use Prim.Native.Nat.{_≤_, _-_}
 use native.Mathlib.Omega.{arith}
-use Rattle.rule_codes.proofs.Walks.{Ahead, walk-starts, walk-goes}
-use Rattle.rule_codes.proofs.SoFar.{byTable, SoFar, so-starts, so-goes}
-use Rattle.rule_codes.proofs.WalkSteps.{heads-few, relation-there, room-there, next-there, goal-there, words-stored, walk-long, words-end}
+use Rattle.rule_codes.proofs.Walks.{WalkedTo, walk-starts, walk-goes}
+use Rattle.rule_codes.proofs.SoFar.{byTable, SubgoalsWritten, so-starts, so-goes}
+use Rattle.rule_codes.proofs.WalkSteps.{heads-few, relation-there, room-there, next-there, goal-there, codes-stored, walk-long, codes-end}
 use Rattle.rule_codes.proofs.subgoals.put_subgoals.Statement.{statement}
 use Rattle.rule_codes.proofs.subgoals.put_subgoals.Tie as tie
 
 abbrev Inv-loop : tie.InvT-loop
-Inv-loop body relations table out₀ goals at₀ i₀ out at i = (i ≤ goals) × Ahead relations body i at × SoFar (byTable table) relations body out₀ i out
+Inv-loop body relations table out₀ goals at₀ i₀ out at i = (i ≤ goals) × WalkedTo relations body i at × SubgoalsWritten (byTable table) relations body out₀ i out
 
 abbrev μ-loop : tie.MeasureT-loop
 μ-loop body relations table out₀ goals at₀ i₀ out at i = goals - i
@@ -48,13 +48,13 @@ loop-again c =
     let l = c .before .before .before .before .before .before .loop .inv in
     let t = c .before .before .before .before .before .loop-test .taken in
     let e = c .before .before .before .before .arity-at .ensures .0 in
-    (omega arith, walk-goes n t (l .1) _ e, so-goes (byTable _) _ _ _ w _ _ (l .2) _ (words-stored w n t (l .1) e _ _ _ (c .before .before .put-subgoal .ensures)))
+    (omega arith, walk-goes n t (l .1) _ e, so-goes (byTable _) _ _ _ w _ _ (l .2) _ (codes-stored w n t (l .1) e _ _ _ (c .before .before .put-subgoal .ensures)))
 
 same-length : tie.Need-same-length Inv-loop μ-loop
 same-length c = walk-long (c .before .before .before .goal-count .ensures) (byTable _) (c .before .before .before .before .before .before .before .pre) (c .before .loop .inv .0) (c .before .loop .inv .2)
 
 returns : tie.Need-returns Inv-loop μ-loop
-returns c = words-end (c .before .before .before .goal-count .ensures) _ (c .loop-test .left) (c .before .loop .inv .2)
+returns c = codes-end (c .before .before .before .goal-count .ensures) _ (c .loop-test .left) (c .before .loop .inv .2)
 
 pub put-subgoals-spec : {M : Type 1} → statement M
 put-subgoals-spec =

@@ -3,13 +3,13 @@ use Rattle.rule_codes.proofs.WalkSteps.{walk-long, widths-end}
 use Rattle.rule_codes.proofs.WalkSteps.{heads-few, relation-there, room-there, next-there, width-stored}
 use Prim.Native.Nat.{_≤_, _-_}
 use native.Mathlib.Omega.{arith}
-use Rattle.rule_codes.proofs.Walks.{Ahead, walk-starts, walk-goes}
-use Rattle.rule_codes.proofs.SoFar.{asWidths, SoFar, so-starts, so-goes}
+use Rattle.rule_codes.proofs.Walks.{WalkedTo, walk-starts, walk-goes}
+use Rattle.rule_codes.proofs.SoFar.{asWidths, SubgoalsWritten, so-starts, so-goes}
 use Rattle.rule_codes.proofs.subgoals.put_widths.Statement.{statement}
 use Rattle.rule_codes.proofs.subgoals.put_widths.Tie as tie
 
 abbrev Inv-loop : tie.InvT-loop
-Inv-loop body relations widths₀ goals at₀ i₀ widths at i = (i ≤ goals) × Ahead relations body i at × SoFar asWidths relations body widths₀ i widths
+Inv-loop body relations widths₀ goals at₀ i₀ widths at i = (i ≤ goals) × WalkedTo relations body i at × SubgoalsWritten asWidths relations body widths₀ i widths
 
 abbrev μ-loop : tie.MeasureT-loop
 μ-loop body relations widths₀ goals at₀ i₀ widths at i = goals - i

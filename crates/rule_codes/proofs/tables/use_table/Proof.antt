@@ -23,22 +23,22 @@ add-u32-at c = let p = place-down _ _ _ _ _ (c .loop-test .taken) _ (c .before .
 u32-at-requires : tie.Need-u32-at-requires Inv-loop μ-loop
 u32-at-requires c κs = let p = place-down _ _ _ _ _ (c .loop-test .taken) _ (c .before .loop .inv) (c .before .before .before .before .before .before .pre .0) in let r = p .here .room in omega arith
 
-mul-old-word : tie.Need-mul-old-word Inv-loop μ-loop
-mul-old-word c = let p = place-down _ _ _ _ _ (c .before .loop-test .taken) _ (c .before .before .loop .inv) (c .before .before .before .before .before .before .before .pre .0) in let r = p .room in omega arith
+mul-old-code : tie.Need-mul-old-code Inv-loop μ-loop
+mul-old-code c = let p = place-down _ _ _ _ _ (c .before .loop-test .taken) _ (c .before .before .loop .inv) (c .before .before .before .before .before .before .before .pre .0) in let r = p .room in omega arith
 
-shared-slice-read-old-word : tie.Need-shared-slice-read-old-word Inv-loop μ-loop
-shared-slice-read-old-word c = place-down _ _ _ _ _ (c .before .before .loop-test .taken) _ (c .before .before .before .loop .inv) (c .before .before .before .before .before .before .before .before .pre .0) .room
+shared-slice-read-old-code : tie.Need-shared-slice-read-old-code Inv-loop μ-loop
+shared-slice-read-old-code c = place-down _ _ _ _ _ (c .before .before .loop-test .taken) _ (c .before .before .before .loop .inv) (c .before .before .before .before .before .before .before .before .pre .0) .room
 
-old-word-requires : tie.Need-old-word-requires Inv-loop μ-loop
-old-word-requires c κs =
+old-code-requires : tie.Need-old-code-requires Inv-loop μ-loop
+old-code-requires c κs =
     let p = place-down _ _ _ _ _ (c .before .before .loop-test .taken) _ (c .before .before .before .loop .inv) (c .before .before .before .before .before .before .before .before .pre .0) in
-    (record { term = p .term; within = p .within; is = p .word }, c .before .before .before .before .before .before .before .before .pre .1)
+    (record { term = p .term; within = p .within; is = p .code }, c .before .before .before .before .before .before .before .before .pre .1)
 
 array-write-table : tie.Need-array-write-table Inv-loop μ-loop
-array-write-table c = variable-down _ _ _ _ _ (c .before .before .before .loop-test .taken) _ (c .before .before .before .before .loop .inv) (c .before .before .before .before .before .before .before .before .before .pre .0) _ _ (c .before .before .u32-at .ensures) (c .old-word .ensures)
+array-write-table c = variable-down _ _ _ _ _ (c .before .before .before .loop-test .taken) _ (c .before .before .before .before .loop .inv) (c .before .before .before .before .before .before .before .before .before .pre .0) _ _ (c .before .before .u32-at .ensures) (c .old-code .ensures)
 
 loop-again : tie.Need-loop-again Inv-loop μ-loop
-loop-again c = table-down _ _ _ _ _ (c .before .before .before .loop-test .taken) _ (c .before .before .before .before .loop .inv) _ _ (c .before .before .u32-at .ensures) (c .old-word .ensures)
+loop-again c = table-down _ _ _ _ _ (c .before .before .before .loop-test .taken) _ (c .before .before .before .before .loop .inv) _ _ (c .before .before .u32-at .ensures) (c .old-code .ensures)
 
 returns : tie.Need-returns Inv-loop μ-loop
 returns c = from-ends _ _ _ _ _ _ (c .loop-test .left) (c .before .loop .inv)
@@ -57,9 +57,9 @@ use-table-spec =
     add-u32-at
     u32-at-requires
     (λ c. search needs)
-    mul-old-word
-    shared-slice-read-old-word
-    old-word-requires
+    mul-old-code
+    shared-slice-read-old-code
+    old-code-requires
     (λ c. search needs)
     array-write-table
     (λ c. search needs)

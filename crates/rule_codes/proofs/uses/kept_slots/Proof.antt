@@ -4,7 +4,7 @@ use Rattle.rule_codes.proofs.uses.kept_slots.Statement.{statement}
 use Rattle.rule_codes.proofs.uses.kept_slots.Tie as tie
 
 returns : tie.Need-returns
-returns c = λ u. as-kept u (c .before .before .use-words .ensures u)
+returns c = λ u. as-kept u (c .before .before .use-codes .ensures u)
 
 pub kept-slots-spec : {M : Type 1} → statement M
 kept-slots-spec = tie.close (tie.spec

@@ -4,7 +4,7 @@ use Rattle.rule_codes.proofs.uses.own_slots.Statement.{statement}
 use Rattle.rule_codes.proofs.uses.own_slots.Tie as tie
 
 returns : tie.Need-returns
-returns c = λ u. as-slots u (c .before .before .use-words .ensures u)
+returns c = λ u. as-slots u (c .before .before .use-codes .ensures u)
 
 pub own-slots-spec : {M : Type 1} → statement M
 own-slots-spec = tie.close (tie.spec

@@ -3,12 +3,12 @@ use Prim.Native.Nat.{_-_}
 use native.Mathlib.Omega.{arith}
 use lib.ListN.{length}
 use Rattle.task.specs.Task.{posed}
-use Rattle.summary_rows.proofs.PlaceLaw.{Passed, passed-start, passed-other, passed-not, on-more, place-found, place-none}
+use Rattle.summary_rows.proofs.PlaceLaw.{TargetsTried, passed-start, passed-other, passed-not, on-more, place-found, place-none}
 use Rattle.summary_rows.proofs.row_places.next_place.Statement.{statement}
 use Rattle.summary_rows.proofs.row_places.next_place.Tie as tie
 
 abbrev Inv-targets : tie.InvT-targets
-Inv-targets source widths lasts target own head j ks from next₀ next = Passed (posed source widths lasts target own) head j ks from next
+Inv-targets source widths lasts target own head j ks from next₀ next = TargetsTried (posed source widths lasts target own) head j ks from next
 
 abbrev μ-targets : tie.MeasureT-targets
 μ-targets source widths lasts target own head j ks from next₀ next = length own - next

@@ -1,12 +1,12 @@
 use borrow.Author.Needs.{needs}
 use Prim.Native.Nat.{_-_}
 use Rattle.task.specs.Task.{posed}
-use Rattle.summary_rows.proofs.FillLaw.{Filled, filled-start, filled-more, filled-end}
+use Rattle.summary_rows.proofs.FillLaw.{FrontFilled, filled-start, filled-more, filled-end}
 use Rattle.summary_rows.proofs.row_places.row_with.Statement.{statement}
 use Rattle.summary_rows.proofs.row_places.row_with.Tie as tie
 
 abbrev Inv-loop : tie.InvT-loop
-Inv-loop source widths lasts target own head j all₀ i₀ all i = Filled (posed source widths lasts target own) head j all₀ i all
+Inv-loop source widths lasts target own head j all₀ i₀ all i = FrontFilled (posed source widths lasts target own) head j all₀ i all
 
 abbrev μ-loop : tie.MeasureT-loop
 μ-loop source widths lasts target own head j all₀ i₀ all i = head - i

@@ -5,12 +5,12 @@ use Prim.Native.Nat.{_-_}
 use native.Mathlib.Omega.{arith}
 use borrow.Author.Tests.{not-true, not-false}
 use Rattle.task.specs.Task.{posed}
-use Rattle.task.proofs.Going.{Going, going-start, going-end, going-never, going-more}
+use Rattle.task.proofs.Going.{PlacesFollowed, going-start, going-end, going-never, going-more}
 use Rattle.task.proofs.pass.passes.Statement.{statement}
 use Rattle.task.proofs.pass.passes.Tie as tie
 
 abbrev Inv-loop : tie.InvT-loop
-Inv-loop source widths lasts target own ks g₀ i₀ i-end g i = Going (posed source widths lasts target own) g₀ ks i g × (length g ≡ 64)
+Inv-loop source widths lasts target own ks g₀ i₀ i-end g i = PlacesFollowed (posed source widths lasts target own) g₀ ks i g × (length g ≡ 64)
 
 abbrev μ-loop : tie.MeasureT-loop
 μ-loop source widths lasts target own ks g₀ i₀ i-end g i = i-end - i

@@ -1,7 +1,7 @@
 use mathlib.Core.Path.{sym}
 use native.Mathlib.Omega.{arith}
 use lib.Seq.{length-take-le}
-use Rattle.book_codes.proofs.Expanded.{rows-given, few-goals, words-long, widths-kept, ends-kept}
+use Rattle.book_codes.proofs.Expanded.{rows-given, few-goals, codes-long, widths-kept, ends-kept}
 use Rattle.witness.proofs.BackServing.{from-serving, back-told}
 use borrow.Author.Needs.{needs}
 use Rattle.witness.proofs.back.put_back.Statement.{statement}
@@ -22,13 +22,13 @@ array-share-prefix-source : tie.Need-array-share-prefix-source
 array-share-prefix-source c =
     let expand-back = c .before .before .before .expand-back in
     let w = c .before .before .before .before .before .before .before .before .before .before .pre in
-    let n = few-goals (expand-back .ensures .0) (w .0 .some) in omega (arith, words-long (expand-back .ensures .0) (w .0 .some) (omega arith) (expand-back .ensures .1))
+    let n = few-goals (expand-back .ensures .0) (w .0 .some) in omega (arith, codes-long (expand-back .ensures .0) (w .0 .some) (omega arith) (expand-back .ensures .1))
 
 slice-aggregate-back-from : tie.Need-slice-aggregate-back-from
 slice-aggregate-back-from c =
     let expand-back = c .before .before .before .before .expand-back in
     let w = c .before .before .before .before .before .before .before .before .before .before .before .pre in
-    let n = few-goals (expand-back .ensures .0) (w .0 .some) in sym (length-take-le _ _ (omega (arith, words-long (expand-back .ensures .0) (w .0 .some) (omega arith) (expand-back .ensures .1))))
+    let n = few-goals (expand-back .ensures .0) (w .0 .some) in sym (length-take-le _ _ (omega (arith, codes-long (expand-back .ensures .0) (w .0 .some) (omega arith) (expand-back .ensures .1))))
 
 array-share-prefix-widths : tie.Need-array-share-prefix-widths
 array-share-prefix-widths c =

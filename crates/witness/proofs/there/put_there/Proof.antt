@@ -1,7 +1,7 @@
 use mathlib.Core.Path.{sym}
 use native.Mathlib.Omega.{arith}
 use lib.Seq.{length-take-le}
-use Rattle.book_codes.proofs.Expanded.{rows-given, few-goals, words-long, owners-kept, insides-kept}
+use Rattle.book_codes.proofs.Expanded.{rows-given, few-goals, codes-long, owners-kept, insides-kept}
 use Rattle.witness.proofs.ThereServing.{onto-serving, there-told}
 use borrow.Author.Needs.{needs}
 use Rattle.witness.proofs.there.put_there.Statement.{statement}
@@ -22,13 +22,13 @@ array-share-prefix-target : tie.Need-array-share-prefix-target
 array-share-prefix-target c =
     let expand = c .before .before .before .expand in
     let w = c .before .before .before .before .before .before .before .before .before .before .pre in
-    let n = few-goals (expand .ensures .0) (w .0 .some) in omega (arith, words-long (expand .ensures .0) (w .0 .some) (omega arith) (expand .ensures .1))
+    let n = few-goals (expand .ensures .0) (w .0 .some) in omega (arith, codes-long (expand .ensures .0) (w .0 .some) (omega arith) (expand .ensures .1))
 
 slice-aggregate-there-onto : tie.Need-slice-aggregate-there-onto
 slice-aggregate-there-onto c =
     let expand = c .before .before .before .before .expand in
     let w = c .before .before .before .before .before .before .before .before .before .before .before .pre in
-    let n = few-goals (expand .ensures .0) (w .0 .some) in sym (length-take-le _ _ (omega (arith, words-long (expand .ensures .0) (w .0 .some) (omega arith) (expand .ensures .1))))
+    let n = few-goals (expand .ensures .0) (w .0 .some) in sym (length-take-le _ _ (omega (arith, codes-long (expand .ensures .0) (w .0 .some) (omega arith) (expand .ensures .1))))
 
 array-share-prefix-own : tie.Need-array-share-prefix-own
 array-share-prefix-own c =

@@ -26,7 +26,7 @@ use denote.Triple.Clauses.{ensured, lasts}
 use denote.Triple.Spec.{tripleOf}
 use denote.Triple.Walked.{says}
 use Rattle.spec.specs.TableLoading.{JudgeSays, recordAt}
-use Rattle.contents.specs.Records.{recordsOf, Few}
+use Rattle.contents.specs.Records.{recordsOf, FewSummaries}
 use Rattle.spec.specs.declared.Entry.{Entry}
 use Rattle.spec.specs.declared.Loaded.{Loaded}
 use Rattle.spec.proofs.Loaded as E
@@ -71,7 +71,7 @@ module _ {M : Type 1} (𝓤 : URA M) (H : Heap 𝓤) (A : Atoms 𝓤) (W : Given
       qed W (‵ (flft κ q) ∷ ‵ Book ∷ []) ∵ nothing ! $ move ! (1 ∷ 0 ∷ []) $ join ! $ move ! (1 ∷ []) $
       nothing ! $ owned ! usize (Is usize) (uint-makes 𝓤 H A W w64) room _ (refl, fits) $ fjoin ! $ move ! (1 ∷ 0 ∷ []) $ fjoin ! $ move ! (1 ∷ 0 ∷ []) $ join ! $ frame ! $ done !
 
-  pub goes-records : (r : Loaded) (u : Val) → Few r → ent 𝓤 (sem 𝓤 H A (E.the-row .own r (u ∷ []))) (RecordsOf 𝓤 H A at-mem run .pre (to-records r u))
+  pub goes-records : (r : Loaded) (u : Val) → FewSummaries r → ent 𝓤 (sem 𝓤 H A (E.the-row .own r (u ∷ []))) (RecordsOf 𝓤 H A at-mem run .pre (to-records r u))
   goes-records r u asked =
       qed W (‵ (E.the-row .own r (u ∷ [])) ∷ []) ∵ says ! asked $ nothing ! $ frame ! $ nothing ! $ move ! (1 ∷ 0 ∷ []) $ fjoin ! $ done !
 

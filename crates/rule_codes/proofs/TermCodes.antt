@@ -1,4 +1,4 @@
--- Which words of subgoals are terms' words.
+-- Which codes of subgoals are terms' codes.
 use mathlib.Core.Path.{_≡_, refl, sym, ap, subst}
 use mathlib.Core.Logic.{_↔_, _⊎_, inl, inr, ⊎-elim}
 use mathlib.Core.List.{List, [], _∷_, map, List·Memᴰ·head, List·Memᴰ·tail, List·Memᴰ·append-cases, List·Memᴰ·not-nil, Memᴰ·append-left, Memᴰ·append-right, Memᴰ·of-map}
@@ -6,9 +6,9 @@ use Prim.Native.Nat.{ℕ, zero, suc, _<_, _≤_}
 use native.Mathlib.Omega.{arith}
 use lib.ListN.{length, length-map}
 use Rattle.spec.specs.Words.{_∈_, Term, var, con, Subgoal}
-use Rattle.codes.specs.Code.{variableTag, termCode, padded, subgoalWords, wordsOf}
+use Rattle.codes.specs.Code.{variableTag, termCode, padded, subgoalCodes, codesOf}
 use Rattle.rule_codes.specs.InOrder.{TermAmong}
-use Rattle.rule_codes.specs.BodyTerms.{WordOf}
+use Rattle.rule_codes.specs.BodyTerms.{CodeOf}
 
 padded-out : (n : ℕ) (l : List ℕ) (w : ℕ) → w ∈ padded n l → (w ∈ l) ⊎ (w ≡ 1)
 padded-out zero l w i = absurd (List·Memᴰ·not-nil i)
@@ -31,35 +31,35 @@ map-in f (b ∷ l) a (List·Memᴰ·head e) = List·Memᴰ·head (ap f e)
 map-in f (b ∷ l) a (List·Memᴰ·tail i) = List·Memᴰ·tail (map-in f l a i)
 
 -- Subgoals with small relation numbers and no more than eight terms.
-pub record Small (gs : List (Subgoal (Term ℕ))) : Type 0 where
+pub record SmallSubgoals (gs : List (Subgoal (Term ℕ))) : Type 0 where
   pub relation : (g : Subgoal (Term ℕ)) → g ∈ gs → g .relation < variableTag
   pub terms : (g : Subgoal (Term ℕ)) → g ∈ gs → length (g .terms) ≤ 8
 
-small-tail : {g : Subgoal (Term ℕ)} {gs : List (Subgoal (Term ℕ))} → Small (g ∷ gs) → Small gs
+small-tail : {g : Subgoal (Term ℕ)} {gs : List (Subgoal (Term ℕ))} → SmallSubgoals (g ∷ gs) → SmallSubgoals gs
 small-tail s = record { relation = λ g i. s .relation g (List·Memᴰ·tail i); terms = λ g i. s .terms g (List·Memᴰ·tail i) }
 
-later : {g : Subgoal (Term ℕ)} {gs : List (Subgoal (Term ℕ))} {w : ℕ} → WordOf gs w → WordOf (g ∷ gs) w
+later : {g : Subgoal (Term ℕ)} {gs : List (Subgoal (Term ℕ))} {w : ℕ} → CodeOf gs w → CodeOf (g ∷ gs) w
 later o = record { goal = o .goal; among = List·Memᴰ·tail (o .among); term = o .term; stands = o .stands; is = o .is }
 
-term-out : (gs : List (Subgoal (Term ℕ))) → Small gs → (w : ℕ) → w ∈ wordsOf termCode gs → variableTag ≤ w → WordOf gs w
+term-out : (gs : List (Subgoal (Term ℕ))) → SmallSubgoals gs → (w : ℕ) → w ∈ codesOf termCode gs → variableTag ≤ w → CodeOf gs w
 term-out [] s w i h = absurd (List·Memᴰ·not-nil i)
-term-out (g ∷ gs) s w i h = ⊎-elim here (λ j. later (term-out gs (small-tail s) w j h)) (List·Memᴰ·append-cases (subgoalWords termCode g) i)
+term-out (g ∷ gs) s w i h = ⊎-elim here (λ j. later (term-out gs (small-tail s) w j h)) (List·Memᴰ·append-cases (subgoalCodes termCode g) i)
   where
-    term : w ∈ map termCode (g .terms) → WordOf (g ∷ gs) w
+    term : w ∈ map termCode (g .terms) → CodeOf (g ∷ gs) w
     term j = let t = Memᴰ·of-map termCode (g .terms) j in record { goal = g; among = List·Memᴰ·head refl; term = t .0; stands = t .1; is = sym (t .2) }
 
-    here : w ∈ subgoalWords termCode g → WordOf (g ∷ gs) w
+    here : w ∈ subgoalCodes termCode g → CodeOf (g ∷ gs) w
     here (List·Memᴰ·head e) = let small = s .relation g (List·Memᴰ·head refl) in absurd (omega arith)
     here (List·Memᴰ·tail j) = ⊎-elim term (λ e. absurd (omega arith)) (padded-out 8 (map termCode (g .terms)) w j)
 
-term-in : (gs : List (Subgoal (Term ℕ))) → Small gs → (g : Subgoal (Term ℕ)) → g ∈ gs → (t : Term ℕ) → t ∈ g .terms → termCode t ∈ wordsOf termCode gs
+term-in : (gs : List (Subgoal (Term ℕ))) → SmallSubgoals gs → (g : Subgoal (Term ℕ)) → g ∈ gs → (t : Term ℕ) → t ∈ g .terms → termCode t ∈ codesOf termCode gs
 term-in (k ∷ gs) s g (List·Memᴰ·head e) t j =
-    Memᴰ·append-left (wordsOf termCode gs)
+    Memᴰ·append-left (codesOf termCode gs)
     (List·Memᴰ·tail
     (padded-in 8 (map termCode (k .terms)) (termCode t) (rw length-map (s .terms k (List·Memᴰ·head refl)))
     (map-in termCode (k .terms) t (subst (λ h. t ∈ h .terms) e j))))
-term-in (k ∷ gs) s g (List·Memᴰ·tail i) t j = Memᴰ·append-right (subgoalWords termCode k) (term-in gs (small-tail s) g i t j)
+term-in (k ∷ gs) s g (List·Memᴰ·tail i) t j = Memᴰ·append-right (subgoalCodes termCode k) (term-in gs (small-tail s) g i t j)
 
-pub terms-among : (gs : List (Subgoal (Term ℕ))) → Small gs → (w : ℕ) → TermAmong (wordsOf termCode gs) w ↔ WordOf gs w
+pub terms-among : (gs : List (Subgoal (Term ℕ))) → SmallSubgoals gs → (w : ℕ) → TermAmong (codesOf termCode gs) w ↔ CodeOf gs w
 terms-among gs s w =
     (λ h. term-out gs s w (h .0) (h .1), λ o. rw (o .is) (term-in gs s (o .goal) (o .among) (o .term) (o .stands), above-tag (o .term)))

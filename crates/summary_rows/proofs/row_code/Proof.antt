@@ -1,12 +1,12 @@
 use borrow.Author.Needs.{needs}
 use Prim.Native.Nat.{_-_}
 use native.Mathlib.Omega.{arith}
-use Rattle.summary_rows.proofs.RowWords.{word-number, word-term, word-past}
-use Rattle.summary_rows.proofs.row_word.Statement.{statement}
-use Rattle.summary_rows.proofs.row_word.Tie as tie
+use Rattle.summary_rows.proofs.RowCodes.{code-number, code-term, code-past}
+use Rattle.summary_rows.proofs.row_code.Statement.{statement}
+use Rattle.summary_rows.proofs.row_code.Tie as tie
 
 returns : tie.Need-returns
-returns c = word-number _ _ _ _ (c .if1 .taken)
+returns c = code-number _ _ _ _ (c .if1 .taken)
 
 mul-result : tie.Need-mul-result
 mul-result c = omega (arith, c .before .before .pre .0 .targets (c .before .before .args .i - 1) (omega (arith, c .if2 .taken, c .before .if1 .left)))
@@ -21,13 +21,13 @@ shared-slice-read-result : tie.Need-shared-slice-read-result
 shared-slice-read-result c = omega (arith, c .before .before .before .pre .0 .targets (c .before .before .before .args .i - 1) (omega (arith, c .before .if2 .taken, c .before .before .if1 .left)))
 
 returns-2 : tie.Need-returns-2
-returns-2 c = word-term _ _ _ _ (search needs) (c .before .before .before .pre .0 .few) _ (c .before .before .if1 .left) (c .before .if2 .taken)
+returns-2 c = code-term _ _ _ _ (search needs) (c .before .before .before .pre .0 .few) _ (c .before .before .if1 .left) (c .before .if2 .taken)
 
 returns-3 : tie.Need-returns-3
-returns-3 c = word-past _ _ _ _ (search needs) (c .before .before .pre .0 .few) _ (c .before .before .pre .1) (c .if2 .left)
+returns-3 c = code-past _ _ _ _ (search needs) (c .before .before .pre .0 .few) _ (c .before .before .pre .1) (c .if2 .left)
 
-pub row-word-spec : {M : Type 1} → statement M
-row-word-spec =
+pub row-code-spec : {M : Type 1} → statement M
+row-code-spec =
     tie.close
     (tie.spec
     returns

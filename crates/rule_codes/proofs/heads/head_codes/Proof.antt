@@ -4,14 +4,14 @@ use mathlib.Core.Path.{refl}
 use native.Mathlib.Omega.{arith}
 use Rattle.rule_codes.proofs.HeadSteps.{head-there, head-end}
 use Rattle.rule_codes.proofs.NineSteps.{TermsStored, terms-go}
-use Rattle.rule_codes.proofs.heads.head_words.Statement.{statement}
-use Rattle.rule_codes.proofs.heads.head_words.Tie as tie
+use Rattle.rule_codes.proofs.heads.head_codes.Statement.{statement}
+use Rattle.rule_codes.proofs.heads.head_codes.Tie as tie
 
 abbrev Inv-loop : tie.InvT-loop
-Inv-loop body heads table words₀ k₀ words k = (k ≤ 8) × TermsStored body 2 heads 0 table words₀ k words
+Inv-loop body heads table codes₀ k₀ codes k = (k ≤ 8) × TermsStored body 2 heads 0 table codes₀ k codes
 
 abbrev μ-loop : tie.MeasureT-loop
-μ-loop body heads table words₀ k₀ words k = 8 - k
+μ-loop body heads table codes₀ k₀ codes k = 8 - k
 
 padded-at-requires : tie.Need-padded-at-requires Inv-loop μ-loop
 padded-at-requires c κs = head-there (c .before .before .before .before .head-count .ensures) (c .before .before .before .before .before .before .pre)
@@ -22,8 +22,8 @@ loop-again c = (omega arith, terms-go _ _ _ _ _ _ _ _ _ _ (c .before .before .lo
 returns : tie.Need-returns Inv-loop μ-loop
 returns c = head-end (c .before .before .before .head-count .ensures) (c .before .before .base-table .ensures) refl (c .loop-test .left) (c .before .loop .inv .1)
 
-pub head-words-spec : {M : Type 1} → statement M
-head-words-spec =
+pub head-codes-spec : {M : Type 1} → statement M
+head-codes-spec =
     tie.close
     (tie.spec
     Inv-loop
