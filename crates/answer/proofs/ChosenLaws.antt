@@ -12,7 +12,7 @@ use Rattle.spec.specs.Book.{Book, admittedOf}
 use Rattle.spec.specs.BookLayout.{SoundBook}
 use Rattle.codes.specs.Code.{termCode, codesOf, widthsOf}
 use Rattle.choice_theory.specs.Numbered.{RowList, nothing, rowAt, rowsAt}
-use Rattle.choice_theory.specs.Lists.{getD-in}
+use Rattle.spec.proofs.Lists.At.{getD-in}
 use Rattle.codes.proofs.Padded.{codes-length}
 use Rattle.outcomes.proofs.Bounds.{book-bounds}
 use Rattle.spec.specs.Table.{Fault9, mostRows}

@@ -25,7 +25,7 @@ use Rattle.answer.specs.Bytes.{rewritingBytes, Writable}
 use Rattle.spec.proofs.Lists.Stores.{sets-next}
 use Rattle.answer.proofs.Means.{RowWithin, rewriting-means}
 use Rattle.spec.specs.Table.{Fault1, answerRoom, witnessRoom}
-use Rattle.spec.specs.Given.{written, answerBytes, witnessBytes, Given}
+use Rattle.spec.specs.Given.{atFront, answerBytes, witnessBytes, Given}
 use Rattle.outcomes.proofs.Rooms.{answer-fits, witness-fits}
 use Rattle.outcomes.proofs.Bounds.{book-bounds, rows-bounds}
 use Rattle.book_codes.specs.RowGiven.{RowOf, RowGiven}
@@ -139,7 +139,7 @@ module _ {book codes widths : List ℕ} {k : ℕ} (a w : List ℕ) (p : Puts boo
     abbrev given : Given book (length a) (length w)
     given = record { room = p .room; value = p .value; sound = p .sound; few = p .few; result = result; right = record { answers = p .answers; goes = goes .first; returns = returns .first } }
 
-    witness-holds : w₂ ≡ written (witnessBytes result) w
+    witness-holds : w₂ ≡ atFront (witnessBytes result) w
     unfolding witnessRoom
     witness-holds =
         returns .written ∙ ap (λ x. sets x m (returns .bytes)) (goes .written) ∙ sets-next w 0 m (goes .bytes) (returns .bytes) (omega (arith, goes .long))
@@ -149,7 +149,7 @@ module _ {book codes widths : List ℕ} {k : ℕ} (a w : List ℕ) (p : Puts boo
       answer-is : rewritingBytes body codes widths k ≡ answerBytes q result
       answer-is = ap (rewritingBytes body codes widths) (sym (p .count)) ∙ rewriting-means q body codes widths (p .list) (p .rest) (p .more) (body-is p part) (row-writes p) (p .codes-are) (p .widths-are)
 
-      answer-holds : a₁ ≡ written (answerBytes q result) a
+      answer-holds : a₁ ≡ atFront (answerBytes q result) a
       unfolding answerRoom
       answer-holds = stored ∙ ap (sets a 0) answer-is ∙ stored-front (answerBytes q result) a (omega (arith, answer-fits given, answer-room (p .room)))
 

@@ -5,7 +5,7 @@ use Prim.Native.Nat.{ℕ}
 use lib.ListN.{length}
 use Rattle.spec.specs.Book.{Book}
 use Rattle.spec.specs.Result.{Answered}
-use Rattle.spec.specs.Given.{written, answerBytes, witnessBytes, Given}
+use Rattle.spec.specs.Given.{atFront, answerBytes, witnessBytes, Given}
 use Rattle.outcomes.proofs.Once.{given-value, given-result}
 use Rattle.spec.specs.Rewriting.{Accepted}
 
@@ -28,6 +28,6 @@ module _ (book a w : List ℕ) where
       let witnesses = same-witness (x .given) (y .given) in (
         x .answer-long ∙ ap length answers ∙ sym (y .answer-long),
         x .witness-long ∙ ap length witnesses ∙ sym (y .witness-long),
-        x .answer-is ∙ ap (λ l. written l a) answers ∙ sym (y .answer-is),
-        x .witness-is ∙ ap (λ l. written l w) witnesses ∙ sym (y .witness-is),
+        x .answer-is ∙ ap (λ l. atFront l a) answers ∙ sym (y .answer-is),
+        x .witness-is ∙ ap (λ l. atFront l w) witnesses ∙ sym (y .witness-is),
       )

@@ -8,7 +8,7 @@ use Rattle.spec.specs.Words.{Term, Subgoal}
 use Rattle.spec.specs.Summaries.{Own, uses, joined}
 use Rattle.spec.specs.Book.{Book, admittedOf}
 use Rattle.codes.specs.Code.{ownCode, codesOf, widthsOf}
-use Rattle.rule_codes.specs.Codes.{atFront}
+use Rattle.spec.specs.Given.{atFront}
 use Rattle.rule_codes.proofs.Stores.{front-length, front-again}
 use Rattle.codes.proofs.Padded.{codes-length}
 use Rattle.choice_theory.specs.Placed.{owners}

@@ -13,7 +13,7 @@ use Rattle.spec.proofs.Lists.Places.{getD-in}
 use Rattle.choice_theory.specs.Numbered.{nothing, rowAt}
 use Rattle.codes.specs.Code.{termCode, subgoalCodes, codesOf, widthsOf}
 use Rattle.search_meaning.proofs.Owners.{uses-long}
-use Rattle.rule_codes.specs.Codes.{atFront}
+use Rattle.spec.specs.Given.{atFront}
 use Rattle.rule_codes.proofs.Stores.{front-more}
 use Rattle.codes.proofs.Padded.{nine, codes-length, widths-length}
 use Rattle.book_codes.specs.RowGiven.{RowOf, RowGiven}
@@ -21,6 +21,7 @@ use Rattle.book_codes.specs.OneUse.{OneUse, OneWidths}
 use Rattle.book_codes.specs.RowsGiven.{RowsOf, RowsGiven}
 use Rattle.book_codes.specs.AllUses.{GoalsCounted}
 use Rattle.book_codes.proofs.Spread.{spread, codesEach, widthsEach, spread-more, spread-long, joined-more, uses-more}
+use Rattle.spec.proofs.Lists.Parts.{to-end}
 
 -- the codes of the row of that number, and what is behind
 abbrev pub rowFrom : List ℕ → ℕ → List ℕ
@@ -32,10 +33,6 @@ nine-at code (g ∷ l) rest zero h = ap (take 9) (append-assoc (subgoalCodes cod
 nine-at code (g ∷ l) rest (suc r) h =
     let e : 9 * suc r ≡ length (subgoalCodes code g) + 9 * r = omega (arith, nine code g) in
     ap₂ (λ k w. take 9 (drop k w)) e (append-assoc (subgoalCodes code g) (codesOf code l) rest) ∙ ap (take 9) (drop-append-add (subgoalCodes code g) (codesOf code l ++ rest) (9 * r)) ∙ nine-at code l rest r (omega arith)
-
--- a part up to the end is all from its start on
-to-end : (l : List ℕ) (k : ℕ) → take (length l - k) (drop k l) ≡ drop k l
-to-end l k = take-all (length l - k) (drop k l) (omega (arith, length-drop k l))
 
 -- codes stored at the front of a part that is lent
 pub stored-behind : (area codes after : List ℕ) (k : ℕ) → k + length codes ≤ length area → after ≡ atFront codes (take (length area - k) (drop k area)) → putMid k (length area - k) area after ≡ sets area k codes

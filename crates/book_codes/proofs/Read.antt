@@ -15,7 +15,7 @@ use Rattle.codes.specs.Code.{codesOf}
 use Rattle.search_meaning.specs.Uses.{useAt, withinAt}
 use Rattle.search_meaning.proofs.Pairs.{use-here, use-later}
 use Rattle.search_meaning.proofs.Owners.{owners-long, owners-at, uses-long}
-use Rattle.rule_codes.specs.Codes.{atFront}
+use Rattle.spec.specs.Given.{atFront}
 use Rattle.codes.proofs.Padded.{codes-length, codes-append}
 use Rattle.book_codes.proofs.Stored.{counted-long, counted-at}
 use Rattle.book_codes.specs.Insides.{insides, starts}

@@ -20,7 +20,7 @@ use Rattle.spec.proofs.Bytes.Within.{entries-are, entries-some, loads-few}
 use Rattle.spec.proofs.Bytes.BookStands.{book-entries}
 use Rattle.spec.proofs.Bytes.BookPasses.{book-loads, summary-reads}
 use Rattle.codes.specs.Code.{termCode, padded, subgoalCodes, codesOf, widthsOf}
-use Rattle.rule_codes.specs.Codes.{atFront}
+use Rattle.spec.specs.Given.{atFront}
 use Rattle.rule_codes.specs.Laid.{Laid, LaidFor, UseOf, UseFor}
 use Rattle.rule_codes.specs.Promises.{GoalCount, BodyWidths}
 use Rattle.rule_codes.specs.Uses.{UseCodes}

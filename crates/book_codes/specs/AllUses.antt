@@ -9,7 +9,7 @@ use Rattle.spec.specs.Book.{Book, admittedOf}
 use Rattle.codes.specs.Code.{codesOf, widthsOf}
 use Rattle.choice_theory.specs.Placed.{owners}
 use Rattle.search_meaning.specs.Uses.{endsOf}
-use Rattle.rule_codes.specs.Codes.{atFront}
+use Rattle.spec.specs.Given.{atFront}
 use Rattle.book_codes.specs.RowsGiven.{RowsOf}
 use Rattle.book_codes.specs.Insides.{insides, starts}
 

@@ -6,7 +6,7 @@ use lib.ListN.{length}
 use Rattle.spec.specs.Book.{Book}
 use Rattle.spec.specs.BookLayout.{SoundBook}
 use Rattle.codes.specs.Code.{slotCode, termCode, codesOf, widthsOf}
-use Rattle.rule_codes.specs.Codes.{atFront}
+use Rattle.spec.specs.Given.{atFront}
 use Rattle.search_meaning.specs.HeadBound.{HeadBound}
 
 pub record SomeSound (book : List ℕ) : Type 0 where

@@ -19,7 +19,7 @@ use Rattle.spec.proofs.Lists.Places.{no-place}
 use Rattle.spec.proofs.Bytes.Within.{entries-some, loads-room}
 use Rattle.rule_codes.specs.Laid.{Laid}
 use Rattle.rule_codes.specs.Promises.{HeadCount}
-use Rattle.rule_codes.proofs.TermSteps.{mapped}
+use Rattle.spec.proofs.Lists.At.{mapped}
 use Rattle.admission.specs.Admission.{HasSummary}
 use Rattle.admission.proofs.Standing.{entry-there, standing}
 use Rattle.book_codes.specs.Question.{SomeSound}

@@ -4,7 +4,6 @@ pub mod Dominates
 pub mod Fewest
 pub mod Frame
 pub mod Going
-pub mod Lists
 pub mod MapsAt
 pub mod Marked
 pub mod Moved

@@ -14,7 +14,7 @@ use Rattle.spec.proofs.Lists.Rising.{Rising, rising-map, rising-ascending, asce
 use Rattle.spec.proofs.Lists.Enumerate.{Enumerates}
 use Rattle.containment.proofs.ListsOfRows.{AllRows, rows-back}
 use Rattle.choice_theory.specs.Numbered.{RowList, nothing, rowAt, rowsAt, Numbers, InRowList, WorksOn}
-use Rattle.choice_theory.specs.Lists.{getD-in, in-getD, rising-getD}
+use Rattle.spec.proofs.Lists.At.{getD-in, in-getD, rising-getD}
 use Rattle.choice_theory.specs.Works.{works-maps, maps-works}
 
 -- Rows that ascend with their numbers.

@@ -11,7 +11,7 @@ use Rattle.containment.proofs.Carry.{terms-after, carry, more}
 use Rattle.containment.proofs.Places.{used, in-use}
 use Rattle.containment.proofs.Expand.{extended}
 use Rattle.choice_theory.specs.Numbered.{RowList, rowAt, rowsAt, InRowList, InChosenUse, keptHead, WorksOn}
-use Rattle.choice_theory.specs.Lists.{place-getD, getD-in, index, index-place}
+use Rattle.spec.proofs.Lists.At.{place-getD, getD-in, index, index-place}
 use Rattle.choice_theory.specs.Moved.{renumbered}
 
 -- What keeps the old variables takes a mapping to a mapping.

@@ -8,7 +8,8 @@ use native.Mathlib.Nat.{add-zero}
 use Rattle.spec.specs.Words.{_∈_, Term, var, con, Subgoal, Rule, Facts, becomes, each, Yields}
 use Rattle.spec.specs.Summaries.{place, Summaries, definition, Yielded, Own, old, fresh, kept, inUse, inPlace, expansion}
 use Rattle.containment.proofs.Carry.{terms-after, subgoal-after}
-use Rattle.containment.proofs.Places.{use-of, used, in-use}
+use Rattle.containment.proofs.Places.{used, in-use}
+use Rattle.spec.proofs.Lists.Counted.{from-one}
 use Rattle.containment.proofs.Suit.{Suits, SuitAll, its-rule, its-yield, replaced-is, head-becomes}
 
 -- One use: the summary's body in place, and what the summary yields.
@@ -40,7 +41,7 @@ pub expansion-back : {A X : Type 0} (k : ℕ → A) (s : Summaries) (d : Facts A
 expansion-back k s d r row suits y = record {
   value = λ x. y .value (old x);
   gives = sym (terms-after k kept (y .value) (r .head)) ∙ y .gives;
-  holds = λ g m. let w = use-of (r .body) m in
+  holds = λ g m. let w = from-one (r .body) m in
       use-back k s d (y .value) (w .0) g (suits g m) (λ c i. y .holds c (in-use s 0 (r .body) c record { by = w .0; of = g; at = w .1; inside = rw add-zero i }));
 }
 

@@ -1,18 +1,13 @@
 -- Places of a list and the uses that an expansion joins.
-use mathlib.Core.Path.{_≡_, refl, sym, ap, subst}
+use mathlib.Core.Path.{_≡_, refl, sym, subst}
 use mathlib.Core.Logic.{⊎-elim}
 use mathlib.Core.Option.{some, Option·none-ne-some, Option·some-injective}
-use mathlib.Core.List.{List, [], _∷_, List·Memᴰ·head, List·Memᴰ·tail, List·Memᴰ·append-cases, List·Memᴰ·not-nil, Memᴰ·append-left, Memᴰ·append-right}
+use mathlib.Core.List.{List, [], _∷_, List·Memᴰ·append-cases, List·Memᴰ·not-nil, Memᴰ·append-left, Memᴰ·append-right}
 use Prim.Native.Nat.{ℕ, zero, suc, _+_}
 use native.Mathlib.Omega.{arith}
 use native.Mathlib.Nat.{zero-add}
 use Rattle.spec.specs.Words.{_∈_, Term, Subgoal}
 use Rattle.spec.specs.Summaries.{place, Summaries, Own, inPlace, uses, joined}
-
--- The place of a member, counted from 0 as uses are.
-pub use-of : {A : Type 0} {a : A} (l : List A) → a ∈ l → (j : ℕ) × (place l (suc j) ≡ some a)
-use-of (b ∷ l) (List·Memᴰ·head e) = (zero, ap some (sym e))
-use-of (b ∷ l) (List·Memᴰ·tail m) = let w = use-of l m in (suc (w .0), w .1)
 
 module _ {X : Type 0} (s : Summaries) where
   -- A subgoal of the expansion: of which use it is.

@@ -17,7 +17,7 @@ use Rattle.choice_theory.specs.Dominates.{Dominates}
 use Rattle.search_meaning.proofs.InUse.{uses-few}
 use Rattle.search_meaning.proofs.Owners.{uses-long}
 use Rattle.codes.proofs.Padded.{codes-length}
-use Rattle.rule_codes.specs.Codes.{atFront}
+use Rattle.spec.specs.Given.{atFront}
 use Rattle.book_codes.specs.Insides.{starts}
 use Rattle.book_codes.proofs.Beginnings.{starts-long}
 use Rattle.book_codes.proofs.Read.{UsePart, use-part}

@@ -12,7 +12,7 @@ use Rattle.spec.specs.Summaries.{Summaries, Own, inPlace}
 use Rattle.spec.proofs.Lists.Places.{getD-in}
 use Rattle.codes.specs.Code.{ownCode, keptSlot}
 use Rattle.choice_theory.specs.Numbered.{RowList, nothing, rowAt}
-use Rattle.choice_theory.specs.Lists.{in-getD}
+use Rattle.spec.proofs.Lists.At.{in-getD}
 use Rattle.choice_theory.specs.Dominates.{Dominates}
 use Rattle.task.specs.Task.{posed}
 use Rattle.search_meaning.proofs.AtCodes.{relation-at}

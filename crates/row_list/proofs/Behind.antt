@@ -4,16 +4,13 @@ use mathlib.Core.List.{List, [], _++_, append-assoc, append-nil}
 use Prim.Native.Nat.{ℕ, _+_, _-_, _≤_}
 use native.Mathlib.Omega.{arith}
 use lib.ListN.{length, take, drop, length-append, length-drop, drop-of-length-le}
-use lib.Seq.{drop-at, take-all, drop-drop}
-use Rattle.rule_codes.specs.Codes.{atFront}
+use lib.Seq.{drop-at, drop-drop}
+use Rattle.spec.specs.Given.{atFront}
 use Rattle.rule_codes.proofs.Stores.{front-length, front-again}
-
--- what is left from a on
-pub part-all : (a : ℕ) (l : List ℕ) → take (length l - a) (drop a l) ≡ drop a l
-part-all a l = take-all (length l - a) (drop a l) (omega (arith, length-drop a l))
+use Rattle.spec.proofs.Lists.Parts.{to-end}
 
 pub part-long : (a : ℕ) (l : List ℕ) → length (take (length l - a) (drop a l)) ≡ length l - a
-part-long a l = ap length (part-all a l) ∙ length-drop a l
+part-long a l = ap length (to-end l a) ∙ length-drop a l
 
 module _ (front more before mid part : List ℕ) (a : ℕ) (long : length front ≡ a) (fits : a + length more ≤ length before) (is : mid ≡ atFront front before) where
   pub mid-long : length mid ≡ length before
@@ -27,5 +24,5 @@ module _ (front more before mid part : List ℕ) (a : ℕ) (long : length front 
       let kept : take a mid ≡ front = front-again front before mid a is long in
       let over : drop (length mid - a) (drop a mid) ≡ [] = drop-of-length-le (drop a mid) {i = length mid - a} (omega (arith, length-drop a mid)) in
       let size : a + length more ≡ length (front ++ more) = omega (arith, length-append front more) in
-      let new : part ≡ more ++ drop (length (front ++ more)) before = e ∙ ap (λ l. more ++ drop (length more) l) (part-all a mid ∙ rest) ∙ ap (λ l. more ++ l) (drop-drop (length more) a before ∙ ap (λ n. drop n before) size) in
+      let new : part ≡ more ++ drop (length (front ++ more)) before = e ∙ ap (λ l. more ++ drop (length more) l) (to-end mid a ∙ rest) ∙ ap (λ l. more ++ l) (drop-drop (length more) a before ∙ ap (λ n. drop n before) size) in
       ap₂ (λ x y. x ++ (part ++ y)) kept over ∙ ap (λ l. front ++ l) (append-nil part ∙ new) ∙ sym (append-assoc front more (drop (length (front ++ more)) before))

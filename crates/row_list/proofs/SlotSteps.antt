@@ -2,7 +2,7 @@
 use mathlib.Core.Path.{_≡_, refl, sym, ap, ap₂, _∙_}
 use mathlib.Core.Option.{some}
 use mathlib.Core.List.{List, [], _∷_, map, List·Memᴰ·head, List·Memᴰ·tail}
-use Prim.Native.Nat.{ℕ, zero, suc, _+_, _*_, _<_, _≤_}
+use Prim.Native.Nat.{ℕ, suc, _+_, _*_, _<_, _≤_}
 use native.Mathlib.Omega.{arith}
 use lib.ListN.{length, getD, take, set, replicate, length-map}
 use lib.Seq.{sets}
@@ -10,14 +10,15 @@ use Rattle.spec.specs.Words.{_∈_, Term, var, con, Rule, DistinctVariables}
 use Rattle.spec.specs.Summaries.{place}
 use Rattle.spec.specs.Numbers.{numberAt}
 use Rattle.spec.proofs.Bytes.Standing.{numberOf, TermAt}
-use Rattle.spec.proofs.Lists.Places.{nothing, place-some, place-in}
+use Rattle.spec.proofs.Lists.Places.{place-some, place-in}
 use Rattle.spec.proofs.Bytes.RulePlaces.{head-terms}
 use Rattle.codes.specs.Code.{slotCode}
-use Rattle.rule_codes.specs.Codes.{atFront}
+use Rattle.spec.specs.Given.{atFront}
 use Rattle.rule_codes.specs.Laid.{Laid}
 use Rattle.rule_codes.specs.Promises.{HeadCount}
 use Rattle.rule_codes.proofs.Stores.{stores-more, stores-end, front-more}
 use Rattle.row_list.specs.Tasks.{SummaryIs, SomeSummary, HeadSlots}
+use Rattle.spec.proofs.Lists.At.{mapped}
 
 pub some-laid : {relations bytes : List ℕ} → SomeSummary relations bytes → Laid bytes
 some-laid {relations} w = record { arities = relations; most = 8; rule = w .rule; layout = w .is .layout }
@@ -27,11 +28,6 @@ plain-slot : (ts : List (Term ℕ)) → DistinctVariables ts → (t : Term ℕ) 
 plain-slot (var x ∷ ts) d t (List·Memᴰ·head e) = rw e refl
 plain-slot (var x ∷ ts) d t (List·Memᴰ·tail i) = plain-slot ts (d .1) t i
 plain-slot (con c ∷ ts) d t i = absurd d
-
-getD-place : {A : Type 0} (f : A → ℕ) (l : List A) (i : ℕ) (a : A) → place l (suc i) ≡ some a → getD (map f l) i 0 ≡ f a
-getD-place f [] i a p = nothing p
-getD-place f (b ∷ l) zero a p = let same : b ≡ a = cc in ap f same
-getD-place f (b ∷ l) (suc i) a p = getD-place f l i a p
 
 -- The slots after i of the head's terms.
 pub record SlotsSoFar (bytes : List ℕ) (i : ℕ) (slots : List ℕ) : Type 0 where
@@ -68,7 +64,7 @@ module _ {bytes : List ℕ} {n : ℕ} (count : HeadCount bytes n) where
             let at : 3 + 5 * i ≡ 2 + 5 * i + 1 = omega arith in
             let one : i + 1 ≡ suc i = omega arith in
             let none : 0 + i ≡ i = omega arith in
-            let slot : w ≡ getD (map slotCode (v .head)) i 0 = e ∙ ap (numberAt 4 bytes) at ∙ t .here .number ∙ plain-slot (v .head) (s .plain) (t .term) (place-in (v .head) (suc i) (t .term) (t .stands)) ∙ sym (getD-place slotCode (v .head) i (t .term) (t .stands)) in
+            let slot : w ≡ getD (map slotCode (v .head)) i 0 = e ∙ ap (numberAt 4 bytes) at ∙ t .here .number ∙ plain-slot (v .head) (s .plain) (t .term) (place-in (v .head) (suc i) (t .term) (t .stands)) ∙ sym (mapped slotCode (v .head) i 0 (t .term) (t .stands)) in
             let inside : i < length (map slotCode (v .head)) = (let same = count .is relations 8 v (s .layout) in omega (arith, length-map (v .head) slotCode)) in
             ap₂ (λ l k. set l k w) (so .is relations v s) (sym none) ∙ stores-more (replicate 8 0) 0 (map slotCode (v .head)) i w inside slot ∙ ap (λ k. sets (replicate 8 0) 0 (take k (map slotCode (v .head)))) (sym one)
 

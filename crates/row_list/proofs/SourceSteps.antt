@@ -7,7 +7,7 @@ use lib.ListN.{length, take, drop, replicate, length-append, length-map, length-
 use lib.Seq.{length-take-le}
 use Rattle.spec.specs.Words.{Term, Rule}
 use Rattle.codes.specs.Code.{slotCode, codesOf, widthsOf}
-use Rattle.rule_codes.specs.Codes.{atFront}
+use Rattle.spec.specs.Given.{atFront}
 use Rattle.rule_codes.specs.Laid.{LaidFor}
 use Rattle.rule_codes.specs.Promises.{HeadCount, BodyCodes, BodyWidths}
 use Rattle.rule_codes.proofs.Stores.{front-length, front-again}

@@ -9,7 +9,7 @@ use Rattle.spec.specs.Words.{Term, Rule}
 use Rattle.spec.specs.RuleLayout.{Layout}
 use Rattle.spec.specs.BookLayout.{questionMost}
 use Rattle.codes.specs.Code.{termCode, codesOf}
-use Rattle.rule_codes.specs.Codes.{atFront}
+use Rattle.spec.specs.Given.{atFront}
 use Rattle.rule_codes.specs.InOrder.{InOrder}
 use Rattle.rule_codes.specs.BodyTerms.{CodeOf, BodyTerms}
 use Rattle.rule_codes.specs.Laid.{LaidFor, QuestionLaid}

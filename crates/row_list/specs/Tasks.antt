@@ -9,7 +9,7 @@ use Rattle.spec.proofs.Lists.Enumerate.{Enumerates}
 use Rattle.spec.specs.RuleLayout.{Layout}
 use Rattle.spec.specs.BookLayout.{questionMost, summaryMost}
 use Rattle.codes.specs.Code.{termCode, slotCode, codesOf, widthsOf}
-use Rattle.rule_codes.specs.Codes.{atFront}
+use Rattle.spec.specs.Given.{atFront}
 use Rattle.search_meaning.specs.Coded.{TermIn}
 use Rattle.summary_rows.specs.RowTask.{placed, onto}
 

@@ -2,7 +2,7 @@
 ghost use mathlib.Core.Path.{_≡_};
 ghost use Prim.Native.Nat.{_*_, _≤_};
 ghost use lib.ListN.{length, replicate};
-ghost use Rattle.rule_codes.specs.Codes.{atFront};
+ghost use Rattle.spec.specs.Given.{atFront};
 ghost use Rattle.rule_codes.specs.Laid.{QuestionLaid};
 ghost use Rattle.row_list.specs.Alone.{aloneCode, aloneCodes};
 ghost use Rattle.row_list.specs.Tasks.{SomeSummary, HeadSlots, SourceCodes, TargetCodes};

@@ -8,7 +8,8 @@ use Rattle.spec.specs.Words.{_∈_, Term, var, con, Subgoal, each}
 use Rattle.spec.proofs.Lists.Gathered.{map-same}
 use Rattle.spec.specs.RuleLayout.{TermWithin}
 use Rattle.codes.specs.Code.{variableTag, termCode, slotCode, padded, codesOf, widthsOf}
-use Rattle.rule_codes.specs.Codes.{tabled, based, atFront}
+use Rattle.rule_codes.specs.Codes.{tabled, based}
+use Rattle.spec.specs.Given.{atFront}
 use Rattle.rule_codes.specs.Promises.{BodyCodes}
 use Rattle.rule_codes.specs.Tables.{BaseTable}
 

@@ -13,7 +13,8 @@ use Rattle.spec.specs.RuleLayout.{Layout}
 use Rattle.spec.proofs.Bytes.RulePlaces.{goal-count}
 use Rattle.spec.proofs.Lists.Places.{place-less, nothing}
 use Rattle.codes.specs.Code.{subgoalCodes, codesOf, widthsOf}
-use Rattle.rule_codes.specs.Codes.{tabled, atFront}
+use Rattle.rule_codes.specs.Codes.{tabled}
+use Rattle.spec.specs.Given.{atFront}
 use Rattle.rule_codes.specs.Laid.{LaidFor}
 use Rattle.rule_codes.proofs.Stores.{front-more, front-length}
 use Rattle.codes.proofs.Padded.{codes-more, widths-more, nine, codes-length}

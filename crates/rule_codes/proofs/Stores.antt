@@ -8,7 +8,7 @@ use lib.ListN.{length, getD, take, drop, set, length-append, length-drop, drop-o
 use lib.Seq.{sets, sets-eq, take-suc, take-at, take-all, length-take-le, take-append-seam, drop-append-add, drop-drop, getD-set-same, getD-set-other}
 use lib.Dec.{eqb}
 use borrow.Author.Tests.{eqb-true, eqb-false}
-use Rattle.rule_codes.specs.Codes.{atFront}
+use Rattle.spec.specs.Given.{atFront}
 use Rattle.spec.proofs.Lists.Stores.{sets-more}
 
 module _ (before : List ℕ) (to : ℕ) (codes : List ℕ) where

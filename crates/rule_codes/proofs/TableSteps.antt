@@ -24,7 +24,7 @@ use Rattle.rule_codes.specs.Laid.{UseOf, SomeUse}
 use Rattle.rule_codes.specs.Promises.{HeadCount}
 use Rattle.rule_codes.specs.Tables.{BaseTable, TermCode, OldCode, UseTable}
 use Rattle.rule_codes.proofs.Stores.{after-store}
-use Rattle.rule_codes.proofs.TermSteps.{mapped}
+use Rattle.spec.proofs.Lists.At.{mapped}
 
 -- counting from a base on
 module _ (base : ℕ) where

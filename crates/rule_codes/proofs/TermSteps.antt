@@ -1,18 +1,17 @@
 -- The codes of terms where they stand, one law for each return of the code.
 use mathlib.Core.Path.{_≡_, sym, ap, _∙_}
-use mathlib.Core.Option.{some}
-use mathlib.Core.List.{List, [], _∷_, map}
-use Prim.Native.Nat.{ℕ, zero, suc, _+_, _*_, _<_, _≤_}
+use mathlib.Core.List.{List, map}
+use Prim.Native.Nat.{ℕ, _+_, _*_, _<_, _≤_}
 use native.Mathlib.Omega.{arith}
 use lib.ListN.{getD, length-map, List·getD-eq-default}
 use Rattle.spec.specs.Words.{Term, var, con}
-use Rattle.spec.specs.Summaries.{place}
 use Rattle.spec.specs.Numbers.{numberAt}
 use Rattle.spec.proofs.Bytes.Standing.{TermAt}
-use Rattle.spec.proofs.Lists.Places.{nothing, place-some}
+use Rattle.spec.proofs.Lists.Places.{place-some}
 use Rattle.codes.specs.Code.{constantTag}
 use Rattle.rule_codes.specs.Codes.{tabled}
 use Rattle.rule_codes.specs.Steps.{SomeTerm, SomeTerms, Many, CodeAt, PaddedAt}
+use Rattle.spec.proofs.Lists.At.{mapped}
 
 module _ (bytes : List ℕ) (at n : ℕ) (e : n ≡ numberAt 4 bytes (at + 1)) where
   pub constant : (table : List ℕ) → getD bytes at 0 ≡ 1 → CodeAt bytes at table (constantTag + n)
@@ -32,12 +31,6 @@ module _ (bytes : List ℕ) (at n : ℕ) (e : n ≡ numberAt 4 bytes (at + 1)) w
   pub below-32 : (getD bytes at 0 ≡ 1 → ⊥) → (t : Term ℕ) → TermAt bytes at t → n < 32
   below-32 tag (var x) w = let m = w .number in let h = w .within in omega arith
   below-32 tag (con c) w = absurd (tag (w .tag))
-
--- the term at a place among others
-pub mapped : {A : Type 0} (f : A → ℕ) (l : List A) (k d : ℕ) (a : A) → place l (suc k) ≡ some a → getD (map f l) k d ≡ f a
-mapped f [] k d a p = nothing p
-mapped f (b ∷ l) zero d a p = let same : b ≡ a = cc in ap f same
-mapped f (b ∷ l) (suc k) d a p = mapped f l k d a p
 
 module _ (bytes : List ℕ) (at many k : ℕ) where
   pub term-there : SomeTerms bytes at many → k < many → SomeTerm bytes (at + 5 * k)

@@ -11,7 +11,8 @@ use Rattle.spec.specs.Summaries.{Summaries, summary, orEmpty, definition, Own, 
 use Rattle.spec.proofs.Lists.Gathered.{map-same}
 use Rattle.spec.specs.RuleLayout.{TermWithin}
 use Rattle.codes.specs.Code.{variableTag, freshTag, ownCode, ownSlot, keptSlot, codesOf, widthsOf}
-use Rattle.rule_codes.specs.Codes.{tabled, based, counted, basedUse, atFront}
+use Rattle.rule_codes.specs.Codes.{tabled, based, counted, basedUse}
+use Rattle.spec.specs.Given.{atFront}
 use Rattle.rule_codes.specs.Laid.{UseOf}
 use Rattle.rule_codes.specs.Promises.{BodyCodes}
 use Rattle.rule_codes.specs.Uses.{UseCodes}

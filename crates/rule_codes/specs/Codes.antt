@@ -1,7 +1,7 @@
 -- The codes of terms by what the variables' codes are, so that one builder serves every code of crate coding; laws tie each to those.
-use mathlib.Core.List.{List, _++_}
+use mathlib.Core.List.{List}
 use Prim.Native.Nat.{ℕ, _+_, _<_}
-use lib.ListN.{length, getD, drop}
+use lib.ListN.{getD}
 use Rattle.spec.specs.Words.{Term, var, con}
 use Rattle.spec.specs.Summaries.{Own, old, fresh}
 use Rattle.codes.specs.Code.{constantTag}
@@ -29,7 +29,3 @@ abbrev pub basedUse : ℕ → ℕ → Term (Own ℕ) → ℕ
 basedUse olds base (var (old x)) = olds + x
 basedUse olds base (var (fresh u x)) = base + x
 basedUse olds base (con c) = constantTag + c
-
--- Codes at the front of an area; past them stays what was there.
-abbrev pub atFront : List ℕ → List ℕ → List ℕ
-atFront codes before = codes ++ drop (length codes) before

@@ -6,7 +6,7 @@ use lib.ListN.{length}
 use Rattle.spec.specs.Words.{Term, Rule}
 use Rattle.spec.specs.RuleLayout.{Layout}
 use Rattle.codes.specs.Code.{codesOf, widthsOf}
-use Rattle.rule_codes.specs.Codes.{atFront}
+use Rattle.spec.specs.Given.{atFront}
 
 module _ (bytes : List ℕ) where
   pub record HeadCount (n : ℕ) : Type 0 where

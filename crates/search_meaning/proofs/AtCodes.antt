@@ -1,19 +1,15 @@
 -- What stands where in the codes of a list of subgoals.
-use mathlib.Core.Path.{_≡_, refl, ap, _∙_}
+use mathlib.Core.Path.{_≡_, _∙_}
 use mathlib.Core.List.{List, [], _∷_, map}
 use Prim.Native.Nat.{ℕ, zero, suc, _+_, _*_, _<_}
 use native.Mathlib.Omega.{arith}
-use lib.ListN.{length, getD, length-append, length-map, List·getD-append, List·getD-map}
+use lib.ListN.{length, getD, length-map, List·getD-append, List·getD-map}
 use lib.Seq.{getD-append-add}
 use Rattle.spec.specs.Words.{Subgoal}
 pub use Rattle.choice_theory.specs.Numbered.{nothing}
 use Rattle.codes.specs.Code.{subgoalCodes, codesOf, widthsOf}
 use Rattle.codes.proofs.Padded.{padded-get, nine}
-
-pub map-get : {A B : Type 0} (f : A → B) (l : List A) (a : ℕ) (d : A) (e : B) → a < length l → getD (map f l) a e ≡ f (getD l a d)
-map-get f [] a d e h = absurd (omega arith)
-map-get f (x ∷ l) zero d e h = refl
-map-get f (x ∷ l) (suc a) d e h = map-get f l a d e (omega arith)
+use Rattle.spec.proofs.Lists.At.{map-get}
 
 module _ {A : Type 0} (f : A → ℕ) where
   pub codes-get : (gs : List (Subgoal A)) (i r : ℕ) → i < length gs → r < 9 → getD (codesOf f gs) (9 * i + r) 0 ≡ getD (subgoalCodes f (getD gs i nothing)) r 0

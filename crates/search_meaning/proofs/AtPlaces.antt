@@ -6,7 +6,7 @@ use Prim.Native.Nat.{ℕ, zero, suc, _<_}
 use native.Mathlib.Omega.{arith}
 use lib.ListN.{length, getD}
 use Rattle.spec.specs.Answer.{AtPlaces}
-use Rattle.choice_theory.specs.Lists.{getD-place, place-getD}
+use Rattle.spec.proofs.Lists.At.{getD-place, place-getD}
 
 module _ {A : Type 0} (d : A) where
   -- l has, for each of ms, its place in all, counted from 0

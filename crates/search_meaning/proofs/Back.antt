@@ -14,13 +14,12 @@ use Rattle.spec.specs.Summaries.{place, Summaries, Own, old, fresh, kept, inPla
 use Rattle.spec.specs.Order.{ListBefore}
 use Rattle.spec.specs.Answer.{AtPlaces, Back, FirstBack}
 use Rattle.spec.proofs.Lists.Gathered.{same-map}
-use Rattle.spec.proofs.Lists.Counted.{place-in, place-within}
+use Rattle.spec.proofs.Lists.Counted.{place-in, place-within, from-one}
 use Rattle.spec.proofs.Decided.Orders.{bytesOrder}
 use Rattle.spec.proofs.Decided.WitnessExists.{back-maps, maps-back}
-use Rattle.containment.proofs.Places.{use-of}
 use Rattle.containment.proofs.Carry.{terms-after, terms-same}
 use Rattle.containment.proofs.Suit.{terms-agree}
-use Rattle.choice_theory.specs.Lists.{getD-in}
+use Rattle.spec.proofs.Lists.At.{getD-in}
 use Rattle.choice_theory.specs.Numbered.{nothing, rowAt}
 use Rattle.choice_theory.specs.Targets.{place-uses}
 use Rattle.codes.specs.Code.{termCode, ownSlot}
@@ -82,7 +81,7 @@ module _ (arities : List ℕ) (s : Summaries) (q : Rule ℕ) (bounds : Bounds ar
 
   all-some : AllSome ls
   all-some m i =
-      let p = use-of ls i in
+      let p = from-one ls i in
       let r = use-row (p .0) m (p .1) in
       subst (λ z. 1 ≤ length z) (r .2) (use-some arities s q bounds l rows (r .0) (r .1) (p .0))
 

@@ -13,7 +13,7 @@ use Rattle.spec.proofs.Lists.Counted.{place-in}
 use Rattle.containment.proofs.Places.{in-use}
 use Rattle.containment.proofs.Expand.{extended}
 use Rattle.choice_theory.specs.Numbered.{nothing, rowAt}
-use Rattle.choice_theory.specs.Lists.{getD-in, in-getD, getD-place, choices}
+use Rattle.spec.proofs.Lists.At.{getD-in, in-getD, getD-place, choices, map-get}
 use Rattle.choice_theory.specs.Dominates.{Dominates}
 use Rattle.codes.specs.Code.{ownCode, keptSlot}
 use Rattle.task.specs.Task.{Task, Sized}
@@ -22,7 +22,6 @@ use Rattle.search_meaning.specs.Coded.{Bound, TermIn, Ready, Valued}
 use Rattle.search_meaning.specs.Codings.{keptNaming, ownCoding, readOwn}
 use Rattle.outcomes.specs.Bounds.{Bounds, RowsWithin}
 use Rattle.search_meaning.specs.Tasks.{useTask}
-use Rattle.search_meaning.proofs.AtCodes.{map-get}
 use Rattle.search_meaning.proofs.AtPlaces.{Indexed, places-indexed, indexed-places}
 use Rattle.search_meaning.proofs.General.{mapped-is}
 use Rattle.search_meaning.proofs.Read.{read-own, own-solid}

@@ -18,7 +18,7 @@ use Rattle.task.specs.Mapped.{InRows, Mapped, Feasible}
 use Rattle.search_meaning.specs.HeadBound.{HeadBound}
 use Rattle.outcomes.specs.Bounds.{Bounds, RowsWithin}
 use Rattle.search_meaning.specs.Tasks.{thereTask}
-use Rattle.search_meaning.proofs.AtCodes.{map-get}
+use Rattle.spec.proofs.Lists.At.{map-get}
 use Rattle.search_meaning.proofs.AtPlaces.{Indexed, places-indexed, indexed-places}
 use Rattle.search_meaning.proofs.Owners.{owners-long, owners-below}
 use Rattle.search_meaning.proofs.Into.{Into, into-is, there-sized}

@@ -11,9 +11,9 @@ use Rattle.spec.specs.Words.{_∈_, Subgoal, each}
 use Rattle.task.specs.Task.{Task, valueOf, Agrees, sourceTerm, targetTerm, widthOf}
 use Rattle.task.specs.Mapped.{useOf, Lands, Mapped}
 use Rattle.search_meaning.specs.Coded.{Naming, Coding, Bound, task, Ready, Valued}
-use Rattle.search_meaning.proofs.AtCodes.{nothing, map-get, relation-at, term-at, width-at}
+use Rattle.search_meaning.proofs.AtCodes.{nothing, relation-at, term-at, width-at}
+use Rattle.spec.proofs.Lists.At.{map-get, getD-place, getD-in}
 use Rattle.search_meaning.proofs.AtPlaces.{Indexed, places-indexed, indexed-places}
-use Rattle.choice_theory.specs.Lists.{getD-place, getD-in}
 use Rattle.task.proofs.Slots.{value-slot, value-code}
 
 -- values that agree on the slots give a source code the same

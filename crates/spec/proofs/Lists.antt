@@ -1,8 +1,10 @@
+pub mod At
 pub mod Counted
 pub mod Enumerate
 pub mod Finite
 pub mod Gathered
 pub mod Joined
+pub mod Parts
 pub mod Places
 pub mod Rising
 pub mod Sorted

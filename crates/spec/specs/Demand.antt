@@ -68,3 +68,12 @@ pub record Gave (book answer : List ℕ) (n : ℕ) : Type 1 where
   pub fewer : (p : Rule ℕ) → OverAdmitted (admittedOf value) p → length (p .body) < length rows → DiffersSomewhere value p
   -- "It has at most as many subgoals as the question."
   pub few : length rows ≤ length (value .question .body)
+
+-- "What it says yes to yields the same rows as the question on all finite facts where the summaries hold what their definitions yield"
+pub record YesSameRows (book rewriting : List ℕ) : Type 1 where
+  pub value : Book
+  pub sound : SoundBook book value
+  pub rule : Rule ℕ
+  pub written : ruleBytes rule ≡ rewriting
+  pub same : (facts : List (Subgoal ℕ)) → AllFit (value .arities) facts → (held : Facts ℕ) → HoldJust (admittedOf value) (Listed facts) held → (row : List ℕ)
+      → Yields itself rule held row ↔ Yields itself (value .question) (Listed facts) row

@@ -11,8 +11,8 @@ use Rattle.spec.specs.BookLayout.{SoundBook}
 use Rattle.spec.specs.Table.{Fault1, Fault9}
 
 -- "bytes past them stay"
-abbrev pub written : List ℕ → List ℕ → List ℕ
-written bytes area = bytes ++ drop (length bytes) area
+abbrev pub atFront : List ℕ → List ℕ → List ℕ
+atFront bytes area = bytes ++ drop (length bytes) area
 
 -- "written to the answer area as a rule, with a summary number in each subgoal where a relation number stood"
 abbrev pub answerBytes : Rule ℕ → Answered → List ℕ

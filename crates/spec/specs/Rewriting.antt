@@ -7,13 +7,13 @@ use Rattle.spec.specs.Table.{RewriterRefusal}
 use Rattle.spec.specs.declared.Reason.{Reason}
 use Rattle.spec.specs.declared.Outcome.{Outcome}
 use Rattle.spec.specs.declared.Outcome.the-variants.{Done, Refused}
-use Rattle.spec.specs.Given.{written, answerBytes, witnessBytes, Given}
+use Rattle.spec.specs.Given.{atFront, answerBytes, witnessBytes, Given}
 
 -- "An accepted answer is written to the answer area as a rule"; "Both lengths are returned; bytes past them stay."
 pub record Accepted (book answer answer′ witness witness′ : List ℕ) (n m : ℕ) : Type 0 where
   pub given : Given book (length answer) (length witness)
-  pub answer-is : answer′ ≡ written (answerBytes (given .value .question) (given .result)) answer
-  pub witness-is : witness′ ≡ written (witnessBytes (given .result)) witness
+  pub answer-is : answer′ ≡ atFront (answerBytes (given .value .question) (given .result)) answer
+  pub witness-is : witness′ ≡ atFront (witnessBytes (given .result)) witness
   pub answer-long : n ≡ length (answerBytes (given .value .question) (given .result))
   pub witness-long : m ≡ length (witnessBytes (given .result))
 

@@ -6,7 +6,7 @@ use Prim.Native.Nat.{ℕ, _+_, _*_, _-_, _<_, _≤_}
 use native.Mathlib.Omega.{arith}
 use lib.ListN.{length, getD, take, drop, length-append, length-drop, List·getD-append}
 use lib.Seq.{length-take-le, getD-take}
-use Rattle.choice_theory.specs.Lists.{choices}
+use Rattle.spec.proofs.Lists.At.{choices}
 use Rattle.spec.specs.Order.{ListBefore, First}
 use Rattle.task.specs.Task.{Task, goals, targets}
 use Rattle.placing.specs.Answer.{PlacesFrom}

@@ -7,12 +7,12 @@ use native.Mathlib.Omega.{arith}
 use lib.ListN.{length, getD, replicate, length-map, length-replicate, List·getD-append}
 use lib.Seq.{getD-append-add}
 use Rattle.spec.specs.Words.{_∈_, Term, var, con, Subgoal, Rule, DistinctVariables}
-use Rattle.choice_theory.specs.Lists.{in-getD, getD-in}
+use Rattle.spec.proofs.Lists.At.{in-getD, getD-in, map-get}
 use Rattle.codes.specs.Code.{termCode, slotCode, codesOf}
 use Rattle.spec.specs.RuleLayout.{TermWithin}
 use Rattle.task.specs.Task.{Task, goals, targets, sourceTerm, widthOf, valueOf, Agrees, Completes}
 use Rattle.search_meaning.specs.Codings.{slotNaming, termCoding}
-use Rattle.search_meaning.proofs.AtCodes.{nothing, map-get, relation-at, term-at, width-at}
+use Rattle.search_meaning.proofs.AtCodes.{nothing, relation-at, term-at, width-at}
 use Rattle.search_meaning.proofs.Sizes.{sized}
 use Rattle.summary_rows.specs.RowTask.{headRelation, alone, placed, onto, rowTask, TaskOf}
 use Rattle.summary_rows.specs.RowPlaces.{headTerm, HeadTask}

@@ -12,7 +12,7 @@ use Rattle.task.specs.Task.{Task}
 use Rattle.task.specs.Mapped.{Mapped}
 use Rattle.search_meaning.specs.Coded.{TermIn, SmallTask, Sent}
 use Rattle.search_meaning.specs.Codings.{termCoding, RuleSource}
-use Rattle.choice_theory.specs.Lists.{getD-in}
+use Rattle.spec.proofs.Lists.At.{getD-in}
 use Rattle.search_meaning.proofs.Read.{read-term, term-solid}
 use Rattle.search_meaning.proofs.Slots.{slots-sent}
 use Rattle.summary_rows.specs.RowTask.{headRelation, alone, placed, onto, TaskOf}

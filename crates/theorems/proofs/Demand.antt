@@ -14,7 +14,7 @@ use Rattle.spec.specs.BookLayout.{SoundBook}
 use Rattle.spec.proofs.Bytes.BookUnique.{book-unique}
 use Rattle.spec.proofs.Bytes.Refused.{sound-unrefused}
 use Rattle.spec.specs.Table.{RewriterRefusal, one, read, nine, ten, Fault9, Fault10}
-use Rattle.spec.specs.Given.{answerBytes, Given, written}
+use Rattle.spec.specs.Given.{answerBytes, Given, atFront}
 use Rattle.outcomes.proofs.Demand.{given-same, given-fewer, given-few, refused-all, left-out-nine, left-out-ten, moved-back}
 use Rattle.spec.specs.Rewriting.{Rewriting}
 use Rattle.spec.specs.Refusals.{ofBook}
@@ -64,7 +64,7 @@ module _ {book other : List ℕ} {b c : Book} (sound : SoundBook book b) (also :
       let e : g .value .question ≡ c .question = ap (λ (v : Book). v .question) (book-unique (g .sound) sound) ∙ question in
       record {
         given = record { room = g .room; value = c; sound = also; few = few-other g; result = g .result; right = given-other g };
-        answer-is = x .answer-is ∙ ap (λ q. written (answerBytes q (g .result)) a) e;
+        answer-is = x .answer-is ∙ ap (λ q. atFront (answerBytes q (g .result)) a) e;
         witness-is = x .witness-is;
         answer-long = x .answer-long ∙ ap (λ q. length (answerBytes q (g .result))) e;
         witness-long = x .witness-long;

@@ -1,11 +1,10 @@
 -- What a yes means, and for which rewritings there is one.
-use mathlib.Core.Path.{_≡_, refl, sym}
+use mathlib.Core.Path.{_≡_, refl}
 use mathlib.Core.Bool.{Bool, true, false}
-use mathlib.Core.Logic.{_↔_}
 use mathlib.Core.List.{List}
 use Prim.Native.Nat.{ℕ}
-use Rattle.spec.specs.Words.{Subgoal, Rule, Facts, Listed, AllFit, Yields, itself}
-use Rattle.spec.specs.Summaries.{HoldJust, Equivalent}
+use Rattle.spec.specs.Words.{Rule}
+use Rattle.spec.specs.Summaries.{Equivalent}
 use Rattle.spec.specs.Book.{Book, admittedOf}
 use Rattle.spec.specs.RuleLayout.{ruleBytes}
 use Rattle.spec.specs.BookLayout.{SoundBook}
@@ -13,15 +12,7 @@ use Rattle.spec.specs.Truth.{RewritingRule, Checks}
 use Rattle.outcomes.proofs.Same.{true-same}
 use Rattle.outcomes.proofs.Witnessed.{witness-for}
 use Rattle.outcomes.proofs.AsRule.{passes-only}
-
--- "What it says yes to yields the same rows as the question on all finite facts where the summaries hold what their definitions yield"
-pub record YesSameRows (book rewriting : List ℕ) : Type 1 where
-  pub value : Book
-  pub sound : SoundBook book value
-  pub rule : Rule ℕ
-  pub written : ruleBytes rule ≡ rewriting
-  pub same : (facts : List (Subgoal ℕ)) → AllFit (value .arities) facts → (held : Facts ℕ) → HoldJust (admittedOf value) (Listed facts) held → (row : List ℕ)
-      → Yields itself rule held row ↔ Yields itself (value .question) (Listed facts) row
+use Rattle.spec.specs.Demand.{YesSameRows}
 
 pub yes-same : {book rewriting witness : List ℕ} → Checks book rewriting witness true → YesSameRows book rewriting
 yes-same c = let t = c .exactly .0 refl in record { value = t .value; sound = t .sound; rule = t .rule; written = t .written; same = true-same t }

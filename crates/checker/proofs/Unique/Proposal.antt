@@ -6,7 +6,7 @@ use native.Mathlib.Omega.{arith}
 use lib.ListN.{length}
 use Rattle.spec.specs.Words.{Rule}
 use Rattle.codes.specs.Code.{termCode, codesOf}
-use Rattle.rule_codes.specs.Codes.{atFront}
+use Rattle.spec.specs.Given.{atFront}
 use Rattle.book_codes.specs.Question.{SomeSound}
 use Rattle.outcomes.proofs.AsRule.{rule-once}
 use Rattle.checker.specs.declared.proposal.Proposal.{Proposal}

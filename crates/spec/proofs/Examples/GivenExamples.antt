@@ -14,11 +14,11 @@ use Rattle.spec.specs.BookLayout.{entries, contentsEnd, bookBytes}
 use Rattle.spec.proofs.Bytes.SoundTest.{book-sound}
 use Rattle.spec.specs.Refusals.{ofBook}
 use Rattle.spec.specs.Table.{mostRows, Fault9, RewriterRefusal, ten}
-use Rattle.spec.specs.Given.{Given, written, answerBytes, witnessBytes}
+use Rattle.spec.specs.Given.{Given, atFront, answerBytes, witnessBytes}
 use Rattle.spec.proofs.Examples.TableExamples.{room, short-answer}
 
 -- "bytes past them stay"
-rest-stays : written (1 ∷ 2 ∷ []) (7 ∷ 8 ∷ 9 ∷ 10 ∷ []) ≡ 1 ∷ 2 ∷ 9 ∷ 10 ∷ []
+rest-stays : atFront (1 ∷ 2 ∷ []) (7 ∷ 8 ∷ 9 ∷ 10 ∷ []) ≡ 1 ∷ 2 ∷ 9 ∷ 10 ∷ []
 rest-stays = refl
 
 -- (X1) from 0(X0), 0(X1); summary (A) from 0(A), of this stamp. The need is 5.

@@ -41,13 +41,13 @@ place-within (b ∷ l) zero a e = absurd (Option·none-ne-some a e)
 place-within (b ∷ l) (suc zero) a e = (omega arith, omega arith)
 place-within (b ∷ l) (suc (suc n)) a e = let r = place-within l (suc n) a e in (omega arith, omega arith)
 
+pub from-one : {A : Type 0} {a : A} (l : List A) → a ∈ l → (n : ℕ) × (place l (suc n) ≡ some a)
+from-one (b ∷ l) (List·Memᴰ·head e) = (zero, ap some (sym e))
+from-one (b ∷ l) (List·Memᴰ·tail i) = let w = from-one l i in (suc (w .0), w .1)
+
 -- each member has a place, and what has a place is a member
 pub place-of : {A : Type 0} {a : A} (l : List A) → a ∈ l → (n : ℕ) × (place l n ≡ some a)
 place-of l m = let w = from-one l m in (suc (w .0), w .1)
-  where
-    from-one : {A : Type 0} {a : A} (l : List A) → a ∈ l → (n : ℕ) × (place l (suc n) ≡ some a)
-    from-one (b ∷ l) (List·Memᴰ·head e) = (zero, ap some (sym e))
-    from-one (b ∷ l) (List·Memᴰ·tail i) = let w = from-one l i in (suc (w .0), w .1)
 
 pub place-in : {A : Type 0} {a : A} (l : List A) (n : ℕ) → place l n ≡ some a → a ∈ l
 place-in {a = a} [] n e = absurd (Option·none-ne-some a e)

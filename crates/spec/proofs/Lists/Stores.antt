@@ -16,5 +16,4 @@ sets-next l i j vs ws e = ap (λ k. sets (sets l i vs) k ws) e ∙ sets-append l
 
 -- one store more
 pub sets-more : (l : List ℕ) (i : ℕ) (vs : List ℕ) (v : ℕ) → set (sets l i vs) (i + length vs) v ≡ sets l i (vs ++ (v ∷ []))
-sets-more l i [] v = let e : i + 0 ≡ i = omega arith in ap (λ k. set l k v) e
-sets-more l i (a ∷ vs) v = let e : i + suc (length vs) ≡ suc i + length vs = omega arith in ap (λ k. set (sets (set l i a) (suc i) vs) k v) e ∙ sets-more (set l i a) (suc i) vs v
+sets-more l i vs v = sets-append l i vs (v ∷ [])

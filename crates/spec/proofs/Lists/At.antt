@@ -8,10 +8,11 @@ use native.Mathlib.Omega.{arith}
 use borrow.Author.Tests.{eqb-true, eqb-false, eq-eqb}
 use lib.Dec.{eqb, eqb→eq, not-T, T-not}
 use lib.ListN.{length, getD}
 use Rattle.spec.specs.Words.{_∈_}
 use Rattle.spec.specs.Summaries.{place}
 use Rattle.spec.proofs.Lists.Rising.{Rising}
 use Rattle.spec.proofs.Lists.Gathered.{passing, passing-in, passing-out}
+use Rattle.spec.proofs.Lists.Places.{nothing}
 
 module _ {A : Type 0} (d : A) where
   pub getD-place : (l : List A) (n : ℕ) → n < length l → place l (suc n) ≡ some (getD l n d)
@@ -32,12 +33,6 @@ module _ {A : Type 0} (d : A) where
   pub in-getD : {a : A} (l : List A) → a ∈ l → (n : ℕ) × (n < length l) × (getD l n d ≡ a)
   in-getD (b ∷ l) (List·Memᴰ·head e) = (0, omega arith, sym e)
   in-getD (b ∷ l) (List·Memᴰ·tail m) = let w = in-getD l m in (suc (w .0), omega arith, w .2)
-
--- under a function, whatever stands past the end
-pub getD-map : {A B : Type 0} (f : A → B) (d : A) (e : B) (l : List A) (n : ℕ) → n < length l → getD (map f l) n e ≡ f (getD l n d)
-getD-map f d e [] n h = absurd (omega arith)
-getD-map f d e (a ∷ l) zero h = refl
-getD-map f d e (a ∷ l) (suc n) h = getD-map f d e l n (omega arith)
 
 pub rising-getD : {A : Type 0} (before : A → A → Type 0) (d : A) (l : List A) → Rising before l → (u v : ℕ) → u < v → v < length l → before (getD l u d) (getD l v d)
 rising-getD before d [] r u v h k = absurd (omega arith)
@@ -116,3 +111,14 @@ module _ (r : ℕ) (l : List ℕ) where
       some : (k : List ℕ) → r ∈ k → 0 < length k
       some [] j = absurd (List·Memᴰ·not-nil j)
       some (n ∷ k) j = omega arith
+
+pub map-get : {A B : Type 0} (f : A → B) (l : List A) (a : ℕ) (d : A) (e : B) → a < length l → getD (map f l) a e ≡ f (getD l a d)
+map-get f [] a d e h = absurd (omega arith)
+map-get f (x ∷ l) zero d e h = refl
+map-get f (x ∷ l) (suc a) d e h = map-get f l a d e (omega arith)
+
+-- the term at a place among others
+pub mapped : {A : Type 0} (f : A → ℕ) (l : List A) (k d : ℕ) (a : A) → place l (suc k) ≡ some a → getD (map f l) k d ≡ f a
+mapped f [] k d a p = nothing p
+mapped f (b ∷ l) zero d a p = let same : b ≡ a = cc in ap f same
+mapped f (b ∷ l) (suc k) d a p = mapped f l k d a p
