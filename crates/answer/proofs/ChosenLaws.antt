@@ -7,24 +7,24 @@ use lib.ListN.{length, getD, take, drop, replicate, length-append, length-map, l
 use lib.Seq.{sets, sets-eq, getD-take}
 use Rattle.spec.specs.Words.{_∈_, Term, con, Subgoal, becomes}
 use Rattle.spec.specs.Summaries.{SummaryRow}
-use Rattle.spec.proofs.Decided.Rows.{allRows, allRows-sound}
 use Rattle.spec.specs.Book.{Book, admittedOf}
 use Rattle.spec.specs.BookLayout.{SoundBook}
-use Rattle.codes.specs.Code.{termCode, codesOf, widthsOf}
-use Rattle.choice_theory.specs.Numbered.{RowList, nothing, rowAt, rowsAt}
-use Rattle.spec.proofs.Lists.At.{getD-in}
-use Rattle.codes.proofs.Padded.{codes-length}
-use Rattle.outcomes.proofs.Bounds.{book-bounds}
 use Rattle.spec.specs.Table.{Fault9, mostRows}
+use Rattle.spec.proofs.Decided.Rows.{allRows, allRows-sound}
+use Rattle.spec.proofs.Lists.At.{getD-in}
+use Rattle.spec.proofs.Lists.Zeros.{zero-after}
+use Rattle.choice_theory.specs.Numbered.{RowList, nothing, rowAt, rowsAt}
+use Rattle.outcomes.proofs.Bounds.{book-bounds}
 use Rattle.outcomes.proofs.Grants.{value-safe}
 use Rattle.outcomes.proofs.Total.{fault-9}
+use Rattle.codes.specs.Code.{termCode, codesOf, widthsOf}
+use Rattle.codes.proofs.Padded.{codes-length}
 use Rattle.first_shortest.specs.Chosen.{numbersOf}
 use Rattle.first_shortest.specs.declared.Chosen.{Chosen}
 use Rattle.row_choice.specs.Asked.{ChoiceNeedsOf}
 use Rattle.answer.specs.Picked.{pickedCodes, pickedWidths, Pickable}
 use Rattle.answer.specs.Steps.{Puts, ChosenPut}
 use Rattle.answer.proofs.PickMeans.{picked-means, widths-mean}
-use Rattle.spec.proofs.Lists.Zeros.{zero-after}
 
 -- a summary row is at most as wide as a head
 pub row-narrow : {book : List ℕ} (b : Book) → SoundBook book b → (g : Subgoal (Term ℕ)) → SummaryRow (admittedOf b) (b .question) g → length (g .terms) ≤ 8

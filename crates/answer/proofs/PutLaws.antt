@@ -15,28 +15,28 @@ use Rattle.spec.specs.RuleLayout.{ruleBytes, termsBytes, subgoalsBytes}
 use Rattle.spec.specs.BookLayout.{SoundBook}
 use Rattle.spec.specs.Contents.{entriesIn, partAt}
 use Rattle.spec.specs.Refusals.{Loads}
+use Rattle.spec.specs.Table.{Fault1, answerRoom, witnessRoom}
+use Rattle.spec.specs.Given.{atFront, answerBytes, witnessBytes, Given}
+use Rattle.spec.specs.Rewriting.{Accepted}
 use Rattle.spec.proofs.Bytes.BookPasses.{book-loads}
 use Rattle.spec.proofs.Bytes.BookStands.{question-part}
 use Rattle.spec.proofs.Bytes.Within.{entries-some}
 use Rattle.spec.proofs.Bytes.Sizes.{terms-size}
-use Rattle.codes.specs.Code.{termCode, subgoalCodes, codesOf, widthsOf}
-use Rattle.codes.proofs.Padded.{codes-length, padded-length}
-use Rattle.answer.specs.Bytes.{rewritingBytes, Writable}
 use Rattle.spec.proofs.Lists.Stores.{sets-next}
-use Rattle.answer.proofs.Means.{RowWithin, rewriting-means}
-use Rattle.spec.specs.Table.{Fault1, answerRoom, witnessRoom}
-use Rattle.spec.specs.Given.{atFront, answerBytes, witnessBytes, Given}
 use Rattle.outcomes.proofs.Rooms.{answer-fits, witness-fits}
 use Rattle.outcomes.proofs.Bounds.{book-bounds, rows-bounds}
+use Rattle.codes.specs.Code.{termCode, subgoalCodes, codesOf, widthsOf}
+use Rattle.codes.proofs.Padded.{codes-length, padded-length}
 use Rattle.book_codes.specs.RowGiven.{RowOf, RowGiven}
-use Rattle.book_codes.proofs.RowUse.{summary-few}
 use Rattle.book_codes.specs.RowsGiven.{RowsOf}
+use Rattle.book_codes.specs.FewRows.{FewRowsOf}
+use Rattle.book_codes.proofs.RowUse.{summary-few}
 use Rattle.book_codes.proofs.SummaryRows.{summary-rows}
 use Rattle.witness.specs.ThereTold.{Tells, ThereOf, ThereTold}
-use Rattle.book_codes.specs.FewRows.{FewRowsOf}
 use Rattle.witness.specs.BackTold.{BackOf, BackTold}
-use Rattle.spec.specs.Rewriting.{Accepted}
+use Rattle.answer.specs.Bytes.{rewritingBytes, Writable}
 use Rattle.answer.specs.Steps.{Puts}
+use Rattle.answer.proofs.Means.{RowWithin, rewriting-means}
 use Rattle.answer.proofs.ChosenLaws.{stored-front}
 
 module _ {answer witness : ℕ} (room : Fault1 answer witness → ⊥) where

@@ -8,9 +8,9 @@ use lib.ListN.{length, getD, take, drop, set, length-append, length-drop}
 use lib.Seq.{sets, take-suc, getD-drop, length-take-le}
 use borrow.Author.Tests.{lt-ltb, le-ltb}
 use Rattle.spec.proofs.Bytes.NumberLaws.{length-little}
+use Rattle.spec.proofs.Lists.Stores.{sets-next}
 use Rattle.codes.specs.Code.{constantTag}
 use Rattle.answer.specs.Bytes.{tagOf, codeBytes, codesBytes, rowBytes, rowsBytes, RowsStand, rewritingBytes}
-use Rattle.spec.proofs.Lists.Stores.{sets-next}
 
 pub tag-variable : (code : ℕ) → code < constantTag → 0 ≡ tagOf code
 unfolding tagOf

@@ -6,8 +6,8 @@ use lib.ListN.{length}
 use Rattle.spec.specs.Book.{Book}
 use Rattle.spec.specs.Result.{Answered}
 use Rattle.spec.specs.Given.{atFront, answerBytes, witnessBytes, Given}
-use Rattle.outcomes.proofs.Once.{given-value, given-result}
 use Rattle.spec.specs.Rewriting.{Accepted}
+use Rattle.outcomes.proofs.Once.{given-value, given-result}
 
 module _ (book a w : List ℕ) where
   abbrev answerOf : Given book (length a) (length w) → List ℕ

@@ -5,11 +5,11 @@ use Prim.Native.Nat.{ℕ, _≤_}
 use lib.ListN.{length, getD}
 use Rattle.spec.specs.Words.{Term, Subgoal}
 use Rattle.spec.specs.Answer.{Answer}
-use Rattle.spec.proofs.Decided.Rows.{allRows}
 use Rattle.spec.specs.Book.{Book, admittedOf}
 use Rattle.spec.specs.BookLayout.{SoundBook}
-use Rattle.codes.specs.Code.{termCode, codesOf, widthsOf}
 use Rattle.spec.specs.Table.{Fault1, Fault9}
+use Rattle.spec.proofs.Decided.Rows.{allRows}
+use Rattle.codes.specs.Code.{termCode, codesOf, widthsOf}
 use Rattle.first_shortest.specs.Chosen.{Found}
 use Rattle.first_shortest.specs.declared.Chosen.{Chosen}
 use Rattle.row_choice.specs.Asked.{ChoiceNeeds}

@@ -1,14 +1,14 @@
 -- Members of the empty set, of a union, of a set with one more; when one set lies within another.
 use mathlib.Core.Path.{_≡_, refl, ap, sym, _∙_, subst}
 use mathlib.Core.Logic.{_⊎_, inl, inr, _↔_}
+use mathlib.Core.Bool.{Bool, true, false, false≢true}
 use Prim.Native.Nat.{ℕ, zero, suc, _+_, _*_, _/_, _%_, _^_, _-_, _<_, _≤_, max, min}
 use native.Mathlib.Omega.{arith}
 use native.Mathlib.Decide.{decLt}
 use native.Mathlib.Nat.{two-pow-succ, div-eq-of-lt}
-use mathlib.Core.Bool.{Bool, true, false, false≢true}
-use borrow.Author.Tests.{eqb-true, eq-eqb}
 use lib.Bits.{bitOr, bitAnd, or-step, or-shr, or-comm, or-zero-l, and-step, and-shr}
 use lib.Pow.{shl-shr, shl-exact, shr-shr, shr-le, pow-add, pow-lt, field, mod-mod-pow, ones-split, high, ones-lt}
+use borrow.Author.Tests.{eqb-true, eq-eqb}
 use Rattle.bits.specs.Sets.{Has, has, with, below32, Within, Meets}
 
 pub has-true : (set x : ℕ) → has set x ≡ true → Has set x

@@ -10,18 +10,18 @@ use Rattle.spec.specs.Words.{Term, Subgoal, Mapping}
 use Rattle.spec.specs.Summaries.{Summaries, Own, rewriting, uses, joined, expansion}
 use Rattle.spec.specs.Answer.{Back, FirstBack}
 use Rattle.spec.specs.Book.{Book, admittedOf}
+use Rattle.spec.proofs.Lists.Zeros.{zeros-at}
+use Rattle.outcomes.specs.Bounds.{Bounds}
+use Rattle.outcomes.proofs.Bounds.{book-bounds}
 use Rattle.task.specs.Task.{Task, posed, Sized}
 use Rattle.task.specs.Mapped.{Mapped, FirstMapped}
 use Rattle.search_meaning.specs.HeadBound.{HeadBound}
-use Rattle.outcomes.specs.Bounds.{Bounds}
 use Rattle.search_meaning.specs.Tasks.{backTask}
-use Rattle.outcomes.proofs.Bounds.{book-bounds}
 use Rattle.search_meaning.proofs.InUse.{uses-few}
 use Rattle.search_meaning.proofs.Back.{back-sized, back-is, back-first, back-some}
 use Rattle.book_codes.specs.Question.{SomeSound, QuestionTarget, QuestionBound}
-use Rattle.book_codes.proofs.Lent.{targets-few, target-codes}
-use Rattle.spec.proofs.Lists.Zeros.{zeros-at}
 use Rattle.book_codes.specs.UsesLent.{SourceUsesOf, SourceUses}
+use Rattle.book_codes.proofs.Lent.{targets-few, target-codes}
 
 pub some-sound : {book source widths lasts : List ℕ} → SourceUses book source widths lasts → SomeSound book
 some-sound o = record { value = o .value; sound = o .is .list .sound }

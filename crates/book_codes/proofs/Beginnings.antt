@@ -8,8 +8,8 @@ use lib.Seq.{take-all, drop-set-lt}
 use Rattle.spec.specs.Words.{Term, Subgoal}
 use Rattle.spec.specs.Summaries.{inPlace, uses, joined}
 use Rattle.spec.specs.Book.{Book, admittedOf}
-use Rattle.choice_theory.specs.Numbered.{rowAt}
 use Rattle.spec.specs.Given.{atFront}
+use Rattle.choice_theory.specs.Numbered.{rowAt}
 use Rattle.rule_codes.proofs.Stores.{front-more}
 use Rattle.book_codes.specs.OneUse.{OneCount}
 use Rattle.book_codes.specs.RowsGiven.{RowsOf}

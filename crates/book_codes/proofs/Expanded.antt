@@ -7,22 +7,22 @@ use lib.ListN.{length, take, length-map}
 use Rattle.spec.specs.Words.{Term, Subgoal}
 use Rattle.spec.specs.Summaries.{Own, uses, joined}
 use Rattle.spec.specs.Book.{Book, admittedOf}
-use Rattle.codes.specs.Code.{ownCode, codesOf, widthsOf}
 use Rattle.spec.specs.Given.{atFront}
-use Rattle.rule_codes.proofs.Stores.{front-length, front-again}
-use Rattle.codes.proofs.Padded.{codes-length}
 use Rattle.choice_theory.specs.Placed.{owners}
-use Rattle.search_meaning.specs.Uses.{endsOf}
 use Rattle.outcomes.proofs.Bounds.{book-bounds}
+use Rattle.codes.specs.Code.{ownCode, codesOf, widthsOf}
+use Rattle.codes.proofs.Padded.{codes-length}
+use Rattle.rule_codes.proofs.Stores.{front-length, front-again}
+use Rattle.search_meaning.specs.Uses.{endsOf}
 use Rattle.search_meaning.proofs.InUse.{uses-few}
 use Rattle.search_meaning.proofs.Owners.{owners-long}
 use Rattle.search_meaning.proofs.UseOf.{ends-long}
 use Rattle.book_codes.specs.RowsGiven.{RowsGiven}
 use Rattle.book_codes.specs.Insides.{insides}
 use Rattle.book_codes.specs.AllUses.{GoalsCounted, AllCodes, AllOwners, AllInsides, AllWidths, AllEnds}
-use Rattle.book_codes.proofs.Read.{insides-long}
 use Rattle.book_codes.specs.FewRows.{FewRowsOf, FewRows, ListOf}
 use Rattle.book_codes.specs.UsesLent.{TargetUsesOf, TargetUses}
+use Rattle.book_codes.proofs.Read.{insides-long}
 
 module _ {book rows : List ℕ} {k : ℕ} where
   pub rows-given : FewRows book rows k → RowsGiven book rows k

@@ -4,24 +4,24 @@ use mathlib.Core.List.{List, [], _∷_, _++_, append-assoc, append-nil}
 use Prim.Native.Nat.{ℕ, zero, suc, _+_, _*_, _-_, _<_, _≤_}
 use native.Mathlib.Omega.{arith}
 use lib.ListN.{length, getD, take, drop, length-append, length-drop, length-take, take-append-drop, drop-of-length-le}
-use borrow.Rule.Slice.PartMut.{putMid}
 use lib.Seq.{sets, sets-eq, take-suc, take-all, length-take-le, take-at, drop-append-add, drop-drop, length-sets}
+use borrow.Rule.Slice.PartMut.{putMid}
 use Rattle.spec.specs.Words.{Term, Subgoal}
 use Rattle.spec.specs.Summaries.{orEmpty, Own, inPlace, uses, joined}
 use Rattle.spec.specs.Book.{Book, admittedOf}
+use Rattle.spec.specs.Given.{atFront}
 use Rattle.spec.proofs.Lists.Places.{getD-in}
+use Rattle.spec.proofs.Lists.Parts.{to-end}
 use Rattle.choice_theory.specs.Numbered.{nothing, rowAt}
 use Rattle.codes.specs.Code.{termCode, subgoalCodes, codesOf, widthsOf}
-use Rattle.search_meaning.proofs.Owners.{uses-long}
-use Rattle.spec.specs.Given.{atFront}
-use Rattle.rule_codes.proofs.Stores.{front-more}
 use Rattle.codes.proofs.Padded.{nine, codes-length, widths-length}
+use Rattle.rule_codes.proofs.Stores.{front-more}
+use Rattle.search_meaning.proofs.Owners.{uses-long}
 use Rattle.book_codes.specs.RowGiven.{RowOf, RowGiven}
 use Rattle.book_codes.specs.OneUse.{OneUse, OneWidths}
 use Rattle.book_codes.specs.RowsGiven.{RowsOf, RowsGiven}
 use Rattle.book_codes.specs.AllUses.{GoalsCounted}
 use Rattle.book_codes.proofs.Spread.{spread, codesEach, widthsEach, spread-more, spread-long, joined-more, uses-more}
-use Rattle.spec.proofs.Lists.Parts.{to-end}
 
 -- the codes of the row of that number, and what is behind
 abbrev pub rowFrom : List ℕ → ℕ → List ℕ

@@ -5,12 +5,12 @@ use Prim.Native.Nat.{ℕ, _*_, _<_, _≤_}
 use native.Mathlib.Omega.{arith}
 use lib.ListN.{length, getD}
 use Rattle.spec.specs.Words.{_∈_, var}
-use Rattle.spec.proofs.Decided.Equal.{decEqual, eqTerm, eqNumber}
 use Rattle.spec.specs.Book.{Book}
 use Rattle.spec.specs.RuleLayout.{Layout}
 use Rattle.spec.specs.BookLayout.{SoundBook, questionMost}
 use Rattle.spec.specs.Contents.{entriesIn, partAt}
 use Rattle.spec.specs.Refusals.{Loads}
+use Rattle.spec.proofs.Decided.Equal.{decEqual, eqTerm, eqNumber}
 use Rattle.spec.proofs.Bytes.BookPasses.{book-loads, question-reads}
 use Rattle.spec.proofs.Lists.Finite.{is-in}
 use Rattle.spec.proofs.Bytes.Within.{entries-some}

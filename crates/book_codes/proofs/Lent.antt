@@ -8,8 +8,8 @@ use Rattle.spec.specs.Words.{Term, Subgoal}
 use Rattle.spec.specs.Book.{Book}
 use Rattle.spec.specs.BookLayout.{SoundBook}
 use Rattle.codes.specs.Code.{slotCode, termCode, codesOf, widthsOf}
-use Rattle.rule_codes.proofs.Stores.{front-length, front-again}
 use Rattle.codes.proofs.Padded.{codes-length}
+use Rattle.rule_codes.proofs.Stores.{front-length, front-again}
 use Rattle.book_codes.specs.Question.{QuestionSource, QuestionTarget}
 
 module _ {book : List ℕ} (b : Book) (sound : SoundBook book b) where

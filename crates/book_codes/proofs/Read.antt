@@ -8,17 +8,17 @@ use lib.ListN.{length, getD, take, drop, length-append, List·getD-append}
 use lib.Seq.{getD-append-add, take-at, drop-append-add}
 use Rattle.spec.specs.Words.{Term, Subgoal}
 use Rattle.spec.specs.Summaries.{Summaries, Own, inPlace, uses, joined}
+use Rattle.spec.specs.Given.{atFront}
 use Rattle.spec.proofs.Lists.Counted.{counted}
 use Rattle.choice_theory.specs.Placed.{owners}
 use Rattle.choice_theory.specs.Numbered.{rowAt}
 use Rattle.codes.specs.Code.{codesOf}
+use Rattle.codes.proofs.Padded.{codes-length, codes-append}
 use Rattle.search_meaning.specs.Uses.{useAt, withinAt}
 use Rattle.search_meaning.proofs.Pairs.{use-here, use-later}
 use Rattle.search_meaning.proofs.Owners.{owners-long, owners-at, uses-long}
-use Rattle.spec.specs.Given.{atFront}
-use Rattle.codes.proofs.Padded.{codes-length, codes-append}
-use Rattle.book_codes.proofs.Stored.{counted-long, counted-at}
 use Rattle.book_codes.specs.Insides.{insides, starts}
+use Rattle.book_codes.proofs.Stored.{counted-long, counted-at}
 use Rattle.book_codes.proofs.Beginnings.{starts-long}
 
 module _ {A : Type 0} where

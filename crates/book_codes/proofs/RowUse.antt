@@ -9,23 +9,23 @@ use lib.Seq.{getD-take, take-all, take-take}
 use Rattle.spec.specs.Words.{Term, con, Subgoal, Rule, DistinctVariables, each, becomes}
 use Rattle.spec.specs.Summaries.{place, summary, orEmpty, definition, Own, inUse, inPlace}
 use Rattle.spec.specs.Book.{Summary, Book, admittedOf}
-use Rattle.spec.proofs.Lists.Counted.{place-within}
-use Rattle.containment.proofs.Sound.{admitted-place}
 use Rattle.spec.specs.RuleLayout.{Layout}
 use Rattle.spec.specs.BookLayout.{entries, summaryMost, SoundSummary}
 use Rattle.spec.specs.Contents.{entriesIn, partAt}
 use Rattle.spec.specs.Refusals.{Loads, mostAt}
+use Rattle.spec.specs.Given.{atFront}
+use Rattle.spec.proofs.Lists.Counted.{place-within}
 use Rattle.spec.proofs.Lists.Places.{place-in}
 use Rattle.spec.proofs.Bytes.Within.{entries-are, entries-some, loads-few}
 use Rattle.spec.proofs.Bytes.BookStands.{book-entries}
 use Rattle.spec.proofs.Bytes.BookPasses.{book-loads, summary-reads}
+use Rattle.containment.proofs.Sound.{admitted-place}
 use Rattle.codes.specs.Code.{termCode, padded, subgoalCodes, codesOf, widthsOf}
-use Rattle.spec.specs.Given.{atFront}
+use Rattle.codes.proofs.Padded.{padded-length, padded-front}
 use Rattle.rule_codes.specs.Laid.{Laid, LaidFor, UseOf, UseFor}
 use Rattle.rule_codes.specs.Promises.{GoalCount, BodyWidths}
 use Rattle.rule_codes.specs.Uses.{UseCodes}
 use Rattle.rule_codes.proofs.CodeLaws.{widths-each}
-use Rattle.codes.proofs.Padded.{padded-length, padded-front}
 use Rattle.book_codes.specs.RowGiven.{RowOf, RowGiven}
 use Rattle.book_codes.specs.OneUse.{OneUse, OneCount, OneWidths}
 

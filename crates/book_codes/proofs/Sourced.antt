@@ -9,13 +9,13 @@ use Rattle.spec.specs.Summaries.{uses}
 use Rattle.spec.specs.Book.{Book, admittedOf}
 use Rattle.codes.specs.Code.{ownSlot, codesOf, widthsOf}
 use Rattle.codes.proofs.Padded.{codes-length}
+use Rattle.rule_codes.proofs.Stores.{front-again}
 use Rattle.search_meaning.specs.Uses.{endsOf}
 use Rattle.search_meaning.proofs.UseOf.{ends-long}
 use Rattle.book_codes.specs.AllUses.{GoalsCounted, AllCodes, AllWidths, AllEnds}
-use Rattle.rule_codes.proofs.Stores.{front-again}
-use Rattle.book_codes.proofs.Expanded.{list-of, all, many}
 use Rattle.book_codes.specs.FewRows.{FewRowsOf, FewRows}
 use Rattle.book_codes.specs.UsesLent.{SourceUsesOf, SourceUses}
+use Rattle.book_codes.proofs.Expanded.{list-of, all, many}
 
 module _ {book rows : List ℕ} {k n : ℕ} (counted : GoalsCounted book rows k n)
     {w₀ w d₀ d e₀ e : List ℕ} (codes : AllCodes book rows k ownSlot w₀ w) (wide : AllWidths book rows k d₀ d) (ends : AllEnds book rows k e₀ e) where

@@ -8,11 +8,11 @@ use lib.ListN.{length, replicate, length-append}
 use Rattle.spec.specs.Words.{Term, Subgoal}
 use Rattle.spec.specs.Summaries.{Summaries, inPlace, uses, joined}
 use Rattle.spec.proofs.Lists.Counted.{counted}
-use Rattle.codes.specs.Code.{codesOf, widthsOf}
 use Rattle.choice_theory.specs.Placed.{owners}
+use Rattle.codes.specs.Code.{codesOf, widthsOf}
+use Rattle.codes.proofs.Padded.{codes-append}
 use Rattle.search_meaning.specs.Uses.{endOf, endsOf}
 use Rattle.book_codes.specs.Insides.{insides}
-use Rattle.codes.proofs.Padded.{codes-append}
 
 -- Lists are numbered from u on; `one` says what is written of a list with its number.
 abbrev pub spread : {A : Type 0} → (ℕ → List A → List ℕ) → ℕ → List (List A) → List ℕ

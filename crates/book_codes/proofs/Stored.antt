@@ -6,9 +6,9 @@ use native.Mathlib.Omega.{arith}
 use lib.ListN.{length, getD, take, set, replicate, length-replicate, getD-replicate}
 use lib.Seq.{sets, length-sets}
 use Rattle.spec.proofs.Lists.Counted.{counted}
-use Rattle.search_meaning.specs.Uses.{endOf}
-use Rattle.rule_codes.proofs.Stores.{stores-more, stores-end}
 use Rattle.spec.proofs.Lists.Stores.{sets-more}
+use Rattle.rule_codes.proofs.Stores.{stores-more, stores-end}
+use Rattle.search_meaning.specs.Uses.{endOf}
 
 -- The area after k of the numbers.
 pub record NumbersStored (before : List ℕ) (at : ℕ) (codes : List ℕ) (k : ℕ) (after : List ℕ) : Type 0 where

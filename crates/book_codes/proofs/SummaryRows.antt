@@ -7,8 +7,8 @@ use Rattle.spec.specs.Words.{_∈_, Term, con, Subgoal, becomes}
 use Rattle.spec.specs.Summaries.{SummaryRow, orEmpty}
 use Rattle.spec.specs.Book.{Book, admittedOf}
 use Rattle.spec.specs.BookLayout.{SoundBook}
-use Rattle.codes.specs.Code.{termCode, codesOf}
 use Rattle.outcomes.proofs.Bounds.{book-bounds, rows-bounds}
+use Rattle.codes.specs.Code.{termCode, codesOf}
 use Rattle.book_codes.specs.RowsGiven.{RowsOf}
 
 pub summary-rows : {book rows : List ℕ} {n : ℕ} (b : Book) (l : List (Subgoal (Term ℕ))) → SoundBook book b → ((g : Subgoal (Term ℕ)) → g ∈ l → SummaryRow (admittedOf b) (b .question) g)

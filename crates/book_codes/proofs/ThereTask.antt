@@ -10,19 +10,19 @@ use Rattle.spec.specs.Words.{Term, Subgoal, Mapping}
 use Rattle.spec.specs.Summaries.{Summaries, Own, rewriting, uses, joined, expansion}
 use Rattle.spec.specs.Answer.{There, FirstThere}
 use Rattle.spec.specs.Book.{Book, admittedOf}
+use Rattle.outcomes.specs.Bounds.{Bounds}
+use Rattle.outcomes.proofs.Bounds.{book-bounds}
 use Rattle.task.specs.Task.{Task, posed, Sized}
 use Rattle.task.specs.Mapped.{Mapped, FirstMapped}
 use Rattle.search_meaning.specs.Uses.{pairsOf}
 use Rattle.search_meaning.specs.HeadBound.{HeadBound}
-use Rattle.outcomes.specs.Bounds.{Bounds}
 use Rattle.search_meaning.specs.Tasks.{thereTask}
-use Rattle.outcomes.proofs.Bounds.{book-bounds}
 use Rattle.search_meaning.proofs.Owners.{owners-long, owners-below}
 use Rattle.search_meaning.proofs.Into.{there-sized}
 use Rattle.search_meaning.proofs.There.{there-is, there-first, there-some}
 use Rattle.book_codes.specs.Question.{SomeSound, QuestionSource, QuestionBound}
-use Rattle.book_codes.proofs.Lent.{goals-few, source-codes, source-widths}
 use Rattle.book_codes.specs.UsesLent.{TargetUsesOf, TargetUses}
+use Rattle.book_codes.proofs.Lent.{goals-few, source-codes, source-widths}
 
 module _ {book target own inner : List ℕ} (b : Book) (l : List (Subgoal (Term ℕ))) (o : TargetUsesOf book target own inner b l)
     {before after old new : List ℕ} {n : ℕ} (source : QuestionSource book before after old new n) {bound : List ℕ} (heads : QuestionBound book bound) where

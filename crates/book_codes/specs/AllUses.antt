@@ -6,10 +6,10 @@ use lib.ListN.{length}
 use Rattle.spec.specs.Words.{Term, Subgoal}
 use Rattle.spec.specs.Summaries.{Own, uses, joined}
 use Rattle.spec.specs.Book.{Book, admittedOf}
-use Rattle.codes.specs.Code.{codesOf, widthsOf}
-use Rattle.choice_theory.specs.Placed.{owners}
-use Rattle.search_meaning.specs.Uses.{endsOf}
 use Rattle.spec.specs.Given.{atFront}
+use Rattle.choice_theory.specs.Placed.{owners}
+use Rattle.codes.specs.Code.{codesOf, widthsOf}
+use Rattle.search_meaning.specs.Uses.{endsOf}
 use Rattle.book_codes.specs.RowsGiven.{RowsOf}
 use Rattle.book_codes.specs.Insides.{insides, starts}
 

@@ -1,12 +1,12 @@
 -- A few rows of a sound book as codes: as many as a rewriting may have.
 use mathlib.Core.List.{List}
 use Prim.Native.Nat.{ℕ, _≤_}
+use lib.ListN.{length}
 use Rattle.spec.specs.Words.{Term, Subgoal}
 use Rattle.spec.specs.Book.{Book, admittedOf}
-use Rattle.book_codes.specs.RowsGiven.{RowsOf}
-use lib.ListN.{length}
 use Rattle.spec.specs.BookLayout.{SoundBook}
 use Rattle.outcomes.specs.Bounds.{RowsWithin}
+use Rattle.book_codes.specs.RowsGiven.{RowsOf}
 
 -- As many rows of a sound book as a rewriting may have.
 pub record FewRowsOf (book rows : List ℕ) (k : ℕ) (b : Book) (l : List (Subgoal (Term ℕ))) : Type 0 where

@@ -6,8 +6,8 @@ use lib.ListN.{length}
 use Rattle.spec.specs.Words.{Term, Subgoal}
 use Rattle.spec.specs.Summaries.{Own, inPlace}
 use Rattle.spec.specs.Book.{Book, admittedOf}
-use Rattle.codes.specs.Code.{codesOf, widthsOf}
 use Rattle.spec.specs.Given.{atFront}
+use Rattle.codes.specs.Code.{codesOf, widthsOf}
 use Rattle.book_codes.specs.RowGiven.{RowOf}
 
 module _ (book row : List ℕ) where

@@ -5,8 +5,8 @@ use Prim.Native.Nat.{ℕ}
 use lib.ListN.{length}
 use Rattle.spec.specs.Book.{Book}
 use Rattle.spec.specs.BookLayout.{SoundBook}
-use Rattle.codes.specs.Code.{slotCode, termCode, codesOf, widthsOf}
 use Rattle.spec.specs.Given.{atFront}
+use Rattle.codes.specs.Code.{slotCode, termCode, codesOf, widthsOf}
 use Rattle.search_meaning.specs.HeadBound.{HeadBound}
 
 pub record SomeSound (book : List ℕ) : Type 0 where

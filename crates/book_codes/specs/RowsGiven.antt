@@ -7,8 +7,8 @@ use Rattle.spec.specs.Words.{_∈_, Term, Subgoal}
 use Rattle.spec.specs.Summaries.{definition}
 use Rattle.spec.specs.Book.{Book, admittedOf}
 use Rattle.spec.specs.BookLayout.{SoundBook}
-use Rattle.codes.specs.Code.{termCode, codesOf}
 use Rattle.outcomes.specs.Bounds.{RowsWithin}
+use Rattle.codes.specs.Code.{termCode, codesOf}
 
 -- So many rows: nine codes each at the front. Each is as long as its summary's head.
 pub record RowsOf (book rows : List ℕ) (n : ℕ) (b : Book) (l : List (Subgoal (Term ℕ))) : Type 0 where

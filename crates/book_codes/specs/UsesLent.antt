@@ -5,11 +5,11 @@ use Prim.Native.Nat.{ℕ}
 use Rattle.spec.specs.Words.{Term, Subgoal}
 use Rattle.spec.specs.Summaries.{uses, joined}
 use Rattle.spec.specs.Book.{Book, admittedOf}
-use Rattle.codes.specs.Code.{ownCode, codesOf, ownSlot, widthsOf}
 use Rattle.choice_theory.specs.Placed.{owners}
+use Rattle.codes.specs.Code.{ownCode, codesOf, ownSlot, widthsOf}
+use Rattle.search_meaning.specs.Uses.{endsOf}
 use Rattle.book_codes.specs.Insides.{insides}
 use Rattle.book_codes.specs.FewRows.{ListOf}
-use Rattle.search_meaning.specs.Uses.{endsOf}
 
 module _ (book target own inner : List ℕ) where
   -- as targets: codes, the use of each, and its place there

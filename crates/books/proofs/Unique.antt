@@ -2,12 +2,12 @@
 use mathlib.Core.Path.{_≡_, refl, sym, ap, _∙_}
 use mathlib.Core.List.{List}
 use Prim.Native.Nat.{ℕ}
-use Rattle.spec.proofs.Bytes.RefusedOnce.{refused-once}
-use Rattle.spec.proofs.Bytes.Refused.{sound-unrefused}
 use Rattle.spec.specs.declared.Reading.{Reading}
 use Rattle.spec.specs.declared.Reading.the-variants.{Sound, Refused}
 use Rattle.spec.specs.Reading.{ReadingSays, ToldSays, toldOf}
 use Rattle.spec.specs.declared.Reason.{Reason}
+use Rattle.spec.proofs.Bytes.RefusedOnce.{refused-once}
+use Rattle.spec.proofs.Bytes.Refused.{sound-unrefused}
 
 pub reading-once : (book : List ℕ) (r r′ : Reading) → ReadingSays book r → ReadingSays book r′ → r ≡ r′
 reading-once book Sound Sound a b = refl

@@ -11,13 +11,13 @@ use Rattle.spec.specs.Book.{Book}
 use Rattle.spec.specs.BookLayout.{SoundBook}
 use Rattle.spec.specs.Contents.{count}
 use Rattle.spec.proofs.Bytes.BookStands.{book-count}
+use Rattle.spec.proofs.Lists.Tests.{says-both}
+use Rattle.outcomes.proofs.AsRule.{width-is}
 use Rattle.admission.specs.Admission.{HasSummary, SaysIn}
 use Rattle.admission.proofs.Standing.{standing}
 use Rattle.book_codes.specs.Question.{SomeSound}
-use Rattle.outcomes.proofs.AsRule.{width-is}
-use Rattle.checker.specs.Tests.{AdmittedNumber, Admits, AdmitsAll}
 use Rattle.bits.proofs.Laws.{exactly-yes, exactly-no}
-use Rattle.spec.proofs.Lists.Tests.{says-both}
+use Rattle.checker.specs.Tests.{AdmittedNumber, Admits, AdmitsAll}
 
 -- an admitted summary's number is one of the book's
 number-known : (b : Book) (number : ℕ) → AdmittedNumber b number → (1 ≤ number) × (number ≤ length (b .summaries))

@@ -9,12 +9,12 @@ use lib.Seq.{ext-getD}
 use Rattle.spec.specs.Words.{Term, Rule}
 use Rattle.spec.specs.RuleLayout.{TermWithin, TermsWithin, Layout}
 use Rattle.codes.specs.Code.{termCode, padded}
-use Rattle.search_meaning.specs.Codings.{readTerm}
-use Rattle.search_meaning.proofs.Read.{read-term}
 use Rattle.codes.proofs.Padded.{padded-length, code-no-end}
 use Rattle.rule_codes.specs.Heads.{HeadCodes}
-use Rattle.checker.specs.Tests.{SameHeads}
 use Rattle.bits.proofs.Laws.{exactly-yes, exactly-no}
+use Rattle.search_meaning.specs.Codings.{readTerm}
+use Rattle.search_meaning.proofs.Read.{read-term}
+use Rattle.checker.specs.Tests.{SameHeads}
 
 -- a code says which term it is, and is not that of an end
 code-once : (t u : Term ℕ) → TermWithin t → TermWithin u → termCode t ≡ termCode u → t ≡ u

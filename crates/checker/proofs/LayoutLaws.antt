@@ -8,8 +8,8 @@ use Rattle.rules.specs.declared.Verdict.{Verdict}
 use Rattle.rules.specs.declared.Verdict.the-variants.{Sound, Broken, Unsafe, Repeats}
 use Rattle.rules.specs.Judged.{Judged}
 use Rattle.rule_codes.specs.Laid.{Laid}
-use Rattle.checker.specs.Tests.{LaidOut}
 use Rattle.bits.proofs.Laws.{exactly-yes, exactly-no}
+use Rattle.checker.specs.Tests.{LaidOut}
 
 -- every rule that is not broken has it
 abbrev pub ruled : Verdict → Bool

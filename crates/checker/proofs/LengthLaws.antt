@@ -17,13 +17,13 @@ use Rattle.spec.proofs.Bytes.BookStands.{book-count}
 use Rattle.spec.proofs.Bytes.BookPasses.{book-loads, summary-reads}
 use Rattle.spec.proofs.Lists.Places.{no-place}
 use Rattle.spec.proofs.Bytes.Within.{entries-some, loads-room}
-use Rattle.rule_codes.specs.Laid.{Laid}
-use Rattle.rule_codes.specs.Promises.{HeadCount}
 use Rattle.spec.proofs.Lists.At.{mapped}
+use Rattle.spec.proofs.Bytes.HeadLengths.{headLengths}
 use Rattle.admission.specs.Admission.{HasSummary}
 use Rattle.admission.proofs.Standing.{entry-there, standing}
+use Rattle.rule_codes.specs.Laid.{Laid}
+use Rattle.rule_codes.specs.Promises.{HeadCount}
 use Rattle.book_codes.specs.Question.{SomeSound}
-use Rattle.spec.proofs.Bytes.HeadLengths.{headLengths}
 use Rattle.checker.specs.Lengths.{HeadAt, HeadsTo, HeadsAre}
 
 -- where the count stands

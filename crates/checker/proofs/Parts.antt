@@ -14,13 +14,13 @@ use Rattle.spec.specs.Book.{Book, admittedOf}
 use Rattle.spec.specs.BookLayout.{SoundBook, questionMost}
 use Rattle.spec.specs.Contents.{partAt}
 use Rattle.spec.proofs.Bytes.BookPasses.{question-reads}
-use Rattle.rule_codes.specs.Promises.{GoalCount}
 use Rattle.outcomes.proofs.Rooms.{there-long}
+use Rattle.rule_codes.specs.Promises.{GoalCount}
 use Rattle.book_codes.specs.Question.{SomeSound}
 use Rattle.book_codes.specs.FewRows.{FewRowsOf, FewRows}
+use Rattle.bits.proofs.Laws.{exactly-no}
 use Rattle.witness_check.specs.WayThere.Confirms.{ThereConfirms}
 use Rattle.witness_check.specs.WayBack.Confirms.{BackConfirms}
-use Rattle.bits.proofs.Laws.{exactly-no}
 use Rattle.checker.specs.Steps.{QuestionGoals, Witness, Confirms}
 
 pub goals-are : {book body : List ℕ} {n : ℕ} → body ≡ partAt book 1 → GoalCount body n → QuestionGoals book n

@@ -13,24 +13,24 @@ use Rattle.spec.specs.Book.{Book, admittedOf}
 use Rattle.spec.specs.RuleLayout.{ruleBytes, Layout}
 use Rattle.spec.specs.BookLayout.{SoundBook, questionMost}
 use Rattle.spec.specs.Contents.{partAt}
+use Rattle.spec.specs.Given.{atFront}
+use Rattle.spec.specs.Truth.{RewritingRule}
 use Rattle.spec.proofs.Bytes.RuleLaws.{layout-unique}
 use Rattle.spec.proofs.Bytes.BookPasses.{question-reads}
 use Rattle.spec.proofs.Lists.Places.{place-of, getD-in}
+use Rattle.spec.proofs.Lists.Tests.{says-both}
 use Rattle.choice_theory.specs.Numbered.{nothing}
+use Rattle.outcomes.proofs.AsRule.{width-is, laid-out}
 use Rattle.codes.specs.Code.{termCode, codesOf}
 use Rattle.codes.proofs.Padded.{codes-length}
-use Rattle.search_meaning.proofs.AtCodes.{relation-at}
-use Rattle.spec.specs.Given.{atFront}
 use Rattle.rule_codes.specs.Laid.{LaidFor}
 use Rattle.rule_codes.specs.Promises.{BodyCodes}
 use Rattle.rule_codes.proofs.Stores.{front-length}
 use Rattle.book_codes.specs.Question.{SomeSound}
-use Rattle.spec.specs.Truth.{RewritingRule}
-use Rattle.outcomes.proofs.AsRule.{width-is, laid-out}
+use Rattle.search_meaning.proofs.AtCodes.{relation-at}
 use Rattle.checker.specs.Lengths.{HeadsAre}
 use Rattle.checker.specs.Tests.{LaidOut, SameHeads, AdmitsAll}
 use Rattle.checker.specs.Proposed.{empty, noRows, Proposed, RuleRead}
-use Rattle.spec.proofs.Lists.Tests.{says-both}
 
 -- nothing is proposed, for whatever reason
 pub proposed-none : {book rewriting : List ℕ} → ((b : Book) → SoundBook book b → (rule : Rule ℕ) → RewritingRule b rule → ruleBytes rule ≡ rewriting → ⊥) → Proposed book rewriting noRows

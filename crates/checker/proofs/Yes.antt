@@ -11,21 +11,21 @@ use Rattle.spec.specs.Answer.{There, Back}
 use Rattle.spec.specs.Book.{Book, admittedOf}
 use Rattle.spec.specs.BookLayout.{SoundBook, questionMost}
 use Rattle.spec.specs.declared.Reason.{Reason}
-use Rattle.spec.proofs.Bytes.BookUnique.{book-unique}
-use Rattle.spec.proofs.Bytes.Refused.{sound-unrefused}
-use Rattle.codes.specs.Code.{termCode, codesOf}
-use Rattle.codes.proofs.Padded.{codes-length}
-use Rattle.book_codes.specs.Question.{SomeSound}
-use Rattle.rule_codes.proofs.Stores.{front-again}
 use Rattle.spec.specs.Reading.{ReadingSays}
 use Rattle.spec.specs.declared.Reading.{Reading}
 use Rattle.spec.specs.declared.Reading.the-variants.{Sound, Refused}
-use Rattle.book_codes.specs.FewRows.{FewRowsOf, FewRows}
 use Rattle.spec.specs.Truth.{RewritingRule, Truth, Checks}
+use Rattle.spec.proofs.Bytes.BookUnique.{book-unique}
+use Rattle.spec.proofs.Bytes.Refused.{sound-unrefused}
 use Rattle.outcomes.proofs.AsRule.{rule-once}
+use Rattle.codes.specs.Code.{termCode, codesOf}
+use Rattle.codes.proofs.Padded.{codes-length}
+use Rattle.rule_codes.proofs.Stores.{front-again}
+use Rattle.book_codes.specs.Question.{SomeSound}
+use Rattle.book_codes.specs.FewRows.{FewRowsOf, FewRows}
+use Rattle.bits.proofs.Laws.{exactly-no}
 use Rattle.checker.specs.Proposed.{IsProposed, Proposed, empty}
 use Rattle.checker.specs.declared.proposal.Proposal.{Proposal}
-use Rattle.bits.proofs.Laws.{exactly-no}
 use Rattle.checker.specs.Steps.{Witness, Confirms}
 
 module _ {book bytes : List ℕ} {r : Proposal} (p : Proposed book bytes r) where

@@ -7,10 +7,10 @@ use Rattle.spec.specs.Words.{Rule}
 use Rattle.spec.specs.Book.{Book}
 use Rattle.spec.specs.RuleLayout.{ruleBytes, Layout}
 use Rattle.spec.specs.BookLayout.{SoundBook, questionMost}
-use Rattle.codes.specs.Code.{termCode, codesOf}
-use Rattle.book_codes.specs.Question.{SomeSound}
 use Rattle.spec.specs.Truth.{RewritingRule}
 use Rattle.spec.specs.Given.{atFront}
+use Rattle.codes.specs.Code.{termCode, codesOf}
+use Rattle.book_codes.specs.Question.{SomeSound}
 use Rattle.checker.specs.Lengths.{HeadsAre}
 use Rattle.checker.specs.declared.proposal.Proposal.{Proposal}
 

@@ -6,16 +6,16 @@ use mathlib.Core.List.{map, Memᴰ·cast, Memᴰ·map, Memᴰ·of-map}
 use Prim.Native.Nat.{ℕ, _<_}
 use native.Mathlib.Omega.{arith}
 use native.Mathlib.Decide.{ℕ-discrete}
-use borrow.Author.Tests.{eq-eqb, ne-eqb}
 use lib.Dec.{eqb, eqb→eq}
 use lib.ListN.{length, getD, length-map}
+use borrow.Author.Tests.{eq-eqb, ne-eqb}
 use Rattle.spec.specs.Words.{_∈_, Term, var, con, Subgoal, Rule, becomes, each}
 use Rattle.spec.specs.Summaries.{Summaries, Own, fresh, kept, inPlace}
 use Rattle.spec.proofs.Lists.Tests.{passes, fails, any, any-sound, any-complete}
+use Rattle.spec.proofs.Lists.At.{getD-in, in-getD, without, without-in, without-out, without-few}
 use Rattle.containment.proofs.Carry.{subgoal-same}
 use Rattle.containment.proofs.Expand.{extended}
 use Rattle.choice_theory.specs.Numbered.{RowList, nothing, rowAt, InChosenUse, WorksOn}
-use Rattle.spec.proofs.Lists.At.{getD-in, in-getD, without, without-in, without-out, without-few}
 use Rattle.choice_theory.specs.Moved.{same-use}
 use Rattle.choice_theory.specs.Works.{moved}
 use Rattle.choice_theory.specs.Can.{CanBy}

@@ -10,14 +10,14 @@ use Rattle.spec.specs.Words.{Term, Subgoal, Rule}
 use Rattle.spec.specs.Summaries.{Summaries, summary, rewriting}
 use Rattle.spec.specs.Order.{First}
 use Rattle.spec.specs.Answer.{Answer, AtPairs, Sends, There, Back}
-use Rattle.spec.proofs.Decided.Answered.{Answered, Right}
 use Rattle.spec.specs.Refresh.{admitted}
-use Rattle.spec.proofs.Refresh.Admits.{test-admitted}
 use Rattle.spec.specs.Book.{Summary, Book, ifTrue, admittedOf}
 use Rattle.spec.specs.Demand.{OverAdmitted}
+use Rattle.spec.specs.LeftOut.{LeftOut, SameButLeftOut}
+use Rattle.spec.proofs.Decided.Answered.{Answered, Right}
+use Rattle.spec.proofs.Refresh.Admits.{test-admitted}
 use Rattle.containment.proofs.Sound.{ruleOf}
 use Rattle.containment.proofs.Extend.{AdmitsMore, extend-uses, extend-expansion, extend-rewrites}
-use Rattle.spec.specs.LeftOut.{LeftOut, SameButLeftOut}
 
 -- The same summaries are admitted, under the same numbers.
 abbrev pub SameAdmitted : Summaries → Summaries → Type 0

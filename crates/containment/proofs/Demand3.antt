@@ -2,8 +2,8 @@
 use Prim.Native.Nat.{ℕ}
 use Rattle.spec.specs.Words.{Rule, Listed}
 use Rattle.spec.specs.Book.{Book, admittedOf}
-use Rattle.spec.proofs.Decided.Equal.{eqNumber}
 use Rattle.spec.specs.Demand.{OverAdmitted, Demand3, DiffersSomewhere, Granted}
+use Rattle.spec.proofs.Decided.Equal.{eqNumber}
 use Rattle.containment.proofs.Same.{rewrites-held}
 use Rattle.containment.proofs.Differ.{Differs, answer-differs, refused-differs, differs-held}
 use Rattle.containment.proofs.Sound.{sound-fits, sound-safe}

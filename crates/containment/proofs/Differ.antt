@@ -9,6 +9,7 @@ use lib.ListN.{length}
 use Rattle.spec.specs.Words.{Term, con, Subgoal, Rule, Facts, Listed, AllFit, becomes, each, Yields, itself, Mapping}
 use Rattle.spec.specs.Summaries.{Summaries, summary, Yielded, SummaryRow, HoldJust, Own, expansion, rewriting}
 use Rattle.spec.specs.Answer.{Rewrites, Answer}
+use Rattle.spec.specs.Demand.{OverAdmitted, OnlyOne, first, second}
 use Rattle.spec.proofs.Decided.Equal.{Eq, eqNumber, eqTerm, eqOwn}
 use Rattle.spec.proofs.Decided.Decide.{decYields}
 use Rattle.spec.proofs.Decided.Sound.{AllSafe}
@@ -17,7 +18,6 @@ use Rattle.containment.proofs.Carry.{more, contains}
 use Rattle.containment.proofs.Suit.{row-suits}
 use Rattle.containment.proofs.Expand.{expansion-back}
 use Rattle.containment.proofs.Held.{yielded-carry, over-held}
-use Rattle.spec.specs.Demand.{OverAdmitted, OnlyOne, first, second}
 use Rattle.containment.proofs.Fit.{FitEvery, fit-each, fit-expansion}
 use Rattle.containment.proofs.Freeze.{Below, high, below-high, freeze, frozen, frozenRow, yields-frozen, melt, melt-constant, melt-fact, melted, converse}
 use Rattle.containment.proofs.ListsOfRows.{Image, image}

@@ -7,9 +7,9 @@ use Prim.Native.Nat.{ℕ, zero, suc}
 use native.Mathlib.Nat.{add-zero}
 use Rattle.spec.specs.Words.{_∈_, Term, var, con, Subgoal, Rule, Facts, becomes, each, Yields}
 use Rattle.spec.specs.Summaries.{place, Summaries, definition, Yielded, Own, old, fresh, kept, inUse, inPlace, expansion}
+use Rattle.spec.proofs.Lists.Counted.{from-one}
 use Rattle.containment.proofs.Carry.{terms-after, subgoal-after}
 use Rattle.containment.proofs.Places.{used, in-use}
-use Rattle.spec.proofs.Lists.Counted.{from-one}
 use Rattle.containment.proofs.Suit.{Suits, SuitAll, its-rule, its-yield, replaced-is, head-becomes}
 
 -- One use: the summary's body in place, and what the summary yields.

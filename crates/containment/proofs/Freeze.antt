@@ -5,9 +5,9 @@ use mathlib.Core.Bool.{Bool, true, false, cond}
 use mathlib.Core.List.{List, [], _∷_, _++_, map, List·Memᴰ·head, List·Memᴰ·tail, Memᴰ·cast, Memᴰ·map, Memᴰ·of-map, Memᴰ·append-left, Memᴰ·append-right}
 use Prim.Native.Nat.{ℕ, suc, _+_, _-_, _≤_, _<_}
 use native.Mathlib.Omega.{arith}
-use borrow.Author.Tests.{lt-ltb, le-ltb}
 use lib.Dec.{T, ltb}
 use lib.ListN.{getD}
+use borrow.Author.Tests.{lt-ltb, le-ltb}
 use Rattle.spec.specs.Words.{_∈_, Term, var, con, Subgoal, Rule, Facts, Listed, becomes, each, Yields, itself, Mapping}
 use Rattle.spec.proofs.Lists.Tests.{passes, fails}
 use Rattle.spec.proofs.Decided.Equal.{Eq, termTest, term-sound, term-same}

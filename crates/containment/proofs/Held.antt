@@ -6,8 +6,8 @@ use mathlib.Core.List.{List}
 use Prim.Native.Nat.{ℕ}
 use Rattle.spec.specs.Words.{con, Subgoal, Rule, Facts, becomes, each, Yields, itself}
 use Rattle.spec.specs.Summaries.{Summaries, summary, Yielded, HoldJust}
-use Rattle.containment.proofs.Carry.{StandsInRule, carry, more}
 use Rattle.spec.specs.Demand.{OverAdmitted}
+use Rattle.containment.proofs.Carry.{StandsInRule, carry, more}
 
 -- Every admitted summary's rule has the property.
 abbrev pub Every : Summaries → (Rule ℕ → Type 0) → Type 0

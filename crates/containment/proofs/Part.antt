@@ -6,9 +6,9 @@ use mathlib.Core.List.{List, [], _∷_, map, List·Memᴰ·head, List·Memᴰ·t
 use Prim.Native.Nat.{ℕ, suc, _+_}
 use native.Mathlib.Omega.{arith}
 use native.Mathlib.Nat.{zero-add, add-zero}
-use borrow.Author.Tests.{eqb-true, eqb-false}
 use lib.Dec.{eqb}
 use lib.ListN.{length, length-map}
+use borrow.Author.Tests.{eqb-true, eqb-false}
 use Rattle.spec.specs.Words.{_∈_, Term, con, Subgoal, Rule, Listed, becomes, each, Yields, Mapping}
 use Rattle.spec.specs.Summaries.{place, Summaries, definition, Own, kept, inUse, inPlace, uses, joined, expansion, rewriting}
 use Rattle.spec.proofs.Lists.Counted.{place-in}

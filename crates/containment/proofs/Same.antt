@@ -5,11 +5,11 @@ use Prim.Native.Nat.{ℕ}
 use Rattle.spec.specs.Words.{Term, Subgoal, Rule, Facts, Listed, AllFit, Yields, itself}
 use Rattle.spec.specs.Summaries.{Summaries, Yielded, HoldJust, expansion, Equivalent, rewriting}
 use Rattle.spec.specs.Answer.{Rewrites}
+use Rattle.spec.specs.Demand.{OverAdmitted}
 use Rattle.spec.proofs.Decided.Equal.{Eq, eqNumber, eqOwn}
 use Rattle.containment.proofs.Carry.{contains}
 use Rattle.containment.proofs.Expand.{expansion-back, expansion-forth}
 use Rattle.containment.proofs.Held.{over-held}
-use Rattle.spec.specs.Demand.{OverAdmitted}
 use Rattle.containment.proofs.Fit.{FitEvery, fit-expansion}
 use Rattle.containment.proofs.Contain.{mappings-same}
 use Rattle.containment.proofs.Suit.{SuitAll, row-suits}

@@ -6,14 +6,14 @@ use mathlib.Core.List.{List, [], _∷_, map}
 use Prim.Native.Nat.{ℕ, zero, suc}
 use Rattle.spec.specs.Words.{_∈_, Rule}
 use Rattle.spec.specs.Summaries.{place, summary}
-use Rattle.spec.proofs.Lists.Counted.{place-in}
 use Rattle.spec.specs.Refresh.{admitted}
 use Rattle.spec.specs.Book.{Summary, Book, ifTrue, admittedOf}
+use Rattle.spec.specs.Demand.{Granted, GrantedSummary}
+use Rattle.spec.proofs.Lists.Counted.{place-in}
 use Rattle.spec.proofs.Decided.Sound.{AllSafe}
 use Rattle.containment.proofs.Held.{Every}
 use Rattle.containment.proofs.Fit.{FitEvery}
 use Rattle.containment.proofs.Suit.{DistinctHeads}
-use Rattle.spec.specs.Demand.{Granted, GrantedSummary}
 
 -- The summary's rule, if it is admitted.
 abbrev pub ruleOf : ℕ → Summary → Option (Rule ℕ)

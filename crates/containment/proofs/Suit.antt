@@ -6,9 +6,9 @@ use mathlib.Core.Option.{some}
 use mathlib.Core.List.{List, [], _∷_, map, List·Memᴰ·head, List·Memᴰ·tail, List·Memᴰ·not-nil}
 use Prim.Native.Nat.{ℕ}
 use native.Mathlib.Omega.{arith}
-use borrow.Author.Tests.{eqb-true, eqb-false, ne-eqb, eq-eqb}
 use lib.Dec.{eqb}
 use lib.ListN.{length, length-map}
+use borrow.Author.Tests.{eqb-true, eqb-false, ne-eqb, eq-eqb}
 use Rattle.spec.specs.Words.{_∈_, Term, var, con, Subgoal, Rule, DistinctVariables, Facts, becomes, Yields}
 use Rattle.spec.specs.Summaries.{Summaries, summary, orEmpty, definition, Yielded, Own, fresh, replaced, kept, inUse, Over, OverAll}
 use Rattle.spec.proofs.Lists.Gathered.{map-same}

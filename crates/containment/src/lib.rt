@@ -1,1 +1,1 @@
-// No code: the theorems on the words of the specification, in specs/.
+// No code: the theorems on the words of the specification, in proofs/.

@@ -1,4 +1,4 @@
-// The contents of a book, entry by entry: the fields of the entries, and the rule of no gaps.
+// What a step of the loading answers.
 
 // A step that looks for one fault.
 pub enum Step {

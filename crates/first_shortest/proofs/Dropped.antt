@@ -7,18 +7,18 @@ use Prim.Native.Nat.{ℕ, _<_}
 use native.Mathlib.Omega.{arith}
 use lib.Bits.{bitOr}
 use lib.ListN.{length, getD}
-use Rattle.bits.specs.Sets.{Has, without, Meets}
-use Rattle.bits.proofs.Laws.{or-cases}
-use Rattle.bits.proofs.Less.{without-out, without-in}
-use Rattle.bits.proofs.Common.{meets-some}
 use Rattle.spec.specs.Words.{Rule}
 use Rattle.spec.specs.Summaries.{Summaries}
 use Rattle.choice_theory.specs.Numbered.{RowList}
 use Rattle.choice_theory.specs.Can.{CanBy}
 use Rattle.choice_theory.specs.Dominance.{drop-dominated}
+use Rattle.bits.specs.Sets.{Has, without, Meets}
+use Rattle.bits.proofs.Laws.{or-cases}
+use Rattle.bits.proofs.Less.{without-out, without-in}
+use Rattle.bits.proofs.Common.{meets-some}
 use Rattle.task.specs.Task.{Task}
-use Rattle.placing.specs.FirstPlaces.{Enough}
 use Rattle.task.specs.Mapped.{Feasible}
+use Rattle.placing.specs.FirstPlaces.{Enough}
 use Rattle.first_shortest.specs.Pruning.{Table, PosedWith, Spared, Pruned}
 use Rattle.first_shortest.proofs.Tests.{feasible-can}
 

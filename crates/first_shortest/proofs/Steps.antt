@@ -9,9 +9,6 @@ use native.Mathlib.Decide.{ℕ-discrete}
 use native.Mathlib.Numerals.{add-one}
 use lib.ListN.{length, take, drop, replicate, set, length-replicate, length-set}
 use lib.Seq.{take-suc-set, drop-set-lt, length-take-le}
-use Rattle.bits.specs.Sets.{Has, with, without, first}
-use Rattle.bits.proofs.Laws.{has-none, with-new, with-old, with-cases}
-use Rattle.bits.proofs.Less.{without-is, first-in}
 use Rattle.spec.specs.Words.{_∈_, Rule}
 use Rattle.spec.specs.Summaries.{Summaries}
 use Rattle.spec.specs.Answer.{Rewrites}
@@ -21,15 +18,18 @@ use Rattle.choice_theory.specs.Going.{AtLeast, PassState}
 use Rattle.choice_theory.specs.Marked.{Marked, marked-start, marked-taken, marked-passed, marked-can}
 use Rattle.choice_theory.specs.Frame.{going-start, going-within, going-taken, going-passed, going-answer}
 use Rattle.choice_theory.specs.Fewest.{at-least-start, at-least-next, at-least-none}
+use Rattle.bits.specs.Sets.{Has, with, without, first}
+use Rattle.bits.proofs.Laws.{has-none, with-new, with-old, with-cases}
+use Rattle.bits.proofs.Less.{without-is, first-in}
 use Rattle.task.specs.Task.{Task}
-use Rattle.placing.specs.FirstPlaces.{Enough}
 use Rattle.task.specs.Mapped.{Feasible}
+use Rattle.placing.specs.FirstPlaces.{Enough}
 use Rattle.first_shortest.specs.Posed.{PosedBy, Posed}
-use Rattle.first_shortest.proofs.Tests.{feasible-can}
 use Rattle.first_shortest.specs.Chosen.{Found, NotFound, ChosenBy, Chooses}
 use Rattle.first_shortest.specs.Passing.{nothing, found, starting, taking, passing, Fewest, Tried, UnderwayBy, Underway}
 use Rattle.first_shortest.specs.declared.Chosen.{Chosen}
 use Rattle.first_shortest.specs.declared.Pass.{Pass}
+use Rattle.first_shortest.proofs.Tests.{feasible-can}
 
 -- before the first row: of n rows none is used, all may be
 module _ {s : Summaries} {q : Rule ℕ} {rows : RowList} {t : Task} {b : List ℕ} {n : ℕ} (p : PosedBy s q rows t b n) where

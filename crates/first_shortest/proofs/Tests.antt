@@ -4,11 +4,11 @@ use mathlib.Core.Logic.{_↔_}
 use mathlib.Core.List.{List}
 use Prim.Native.Nat.{ℕ}
 use native.Mathlib.Omega.{arith}
-use Rattle.bits.specs.Sets.{Has}
 use Rattle.spec.specs.Words.{Rule}
 use Rattle.spec.specs.Summaries.{Summaries}
 use Rattle.choice_theory.specs.Numbered.{RowList}
 use Rattle.choice_theory.specs.Can.{CanBy}
+use Rattle.bits.specs.Sets.{Has}
 use Rattle.task.specs.Task.{Task, Sized}
 use Rattle.task.specs.Mapped.{Feasible}
 use Rattle.search_meaning.proofs.Feasibility.{feasible-is, feasible-sized}

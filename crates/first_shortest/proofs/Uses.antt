@@ -5,18 +5,18 @@ use mathlib.Core.Logic.{_↔_}
 use mathlib.Core.List.{List}
 use Prim.Native.Nat.{ℕ}
 use lib.ListN.{replicate}
-use Rattle.bits.proofs.Laws.{exactly-once}
 use Rattle.spec.specs.Summaries.{Summaries}
+use Rattle.spec.proofs.Lists.Zeros.{zero-at}
 use Rattle.choice_theory.specs.Numbered.{RowList}
 use Rattle.choice_theory.specs.Dominates.{Dominates}
+use Rattle.bits.proofs.Laws.{exactly-once}
 use Rattle.task.specs.Task.{Task, Sized}
-use Rattle.placing.specs.FirstPlaces.{FirstPlaces}
 use Rattle.task.specs.Mapped.{Mapped}
+use Rattle.placing.specs.FirstPlaces.{FirstPlaces}
 use Rattle.placing.specs.declared.Places.{Places}
 use Rattle.search_meaning.specs.Coded.{Bound}
 use Rattle.search_meaning.proofs.Dominance.{use-sized, dominates-is}
 use Rattle.first_shortest.specs.Pruning.{UsesBy, Uses, TellsDominance}
-use Rattle.spec.proofs.Lists.Zeros.{zero-at}
 
 module _ {s : Summaries} {rows : RowList} {d r : ℕ} {t : Task} (p : UsesBy s rows d r t) where
   sized-by : Sized t

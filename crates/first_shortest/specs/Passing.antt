@@ -4,15 +4,15 @@ use mathlib.Core.Bool.{Bool, true, false, cond}
 use mathlib.Core.List.{List}
 use Prim.Native.Nat.{ℕ, _+_, _-_, _<_, _≤_}
 use lib.ListN.{length, take, drop, replicate, set}
-use Rattle.bits.specs.Sets.{Has, with, without, first}
 use Rattle.spec.specs.Words.{Rule}
 use Rattle.spec.specs.Summaries.{Summaries}
 use Rattle.choice_theory.specs.Numbered.{RowList}
 use Rattle.choice_theory.specs.Going.{PassState}
 use Rattle.choice_theory.specs.Marked.{Marked}
+use Rattle.bits.specs.Sets.{Has, with, without, first}
 use Rattle.task.specs.Task.{Task}
-use Rattle.placing.specs.FirstPlaces.{Enough}
 use Rattle.task.specs.Mapped.{Feasible}
+use Rattle.placing.specs.FirstPlaces.{Enough}
 use Rattle.first_shortest.specs.Posed.{PosedBy}
 use Rattle.first_shortest.specs.declared.Chosen.{Chosen}
 use Rattle.first_shortest.specs.declared.Pass.{Pass}

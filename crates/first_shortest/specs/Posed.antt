@@ -9,9 +9,9 @@ use Rattle.spec.specs.Order.{RowBefore}
 use Rattle.spec.proofs.Lists.Enumerate.{Enumerates}
 use Rattle.choice_theory.specs.Numbered.{RowList}
 use Rattle.choice_theory.specs.Placed.{owners}
+use Rattle.outcomes.specs.Bounds.{Bounds, RowsWithin}
 use Rattle.task.specs.Task.{Task}
 use Rattle.search_meaning.specs.HeadBound.{HeadBound}
-use Rattle.outcomes.specs.Bounds.{Bounds, RowsWithin}
 use Rattle.search_meaning.specs.Tasks.{thereTask}
 
 -- The task is that of a sound question q over sound summaries s, whose n summary rows are `rows`, each row's targets in the row of its number.

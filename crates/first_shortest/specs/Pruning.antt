@@ -6,14 +6,14 @@ use mathlib.Core.List.{List}
 use Prim.Native.Nat.{ℕ, _<_}
 use lib.Bits.{bitOr}
 use lib.ListN.{length, getD}
-use Rattle.bits.specs.Sets.{Has, without, Meets}
 use Rattle.spec.specs.Words.{Rule}
 use Rattle.spec.specs.Summaries.{Summaries, inPlace}
 use Rattle.choice_theory.specs.Numbered.{RowList, rowAt}
 use Rattle.choice_theory.specs.Can.{CanBy}
 use Rattle.choice_theory.specs.Dominates.{Dominates}
-use Rattle.task.specs.Task.{Task}
 use Rattle.outcomes.specs.Bounds.{Bounds, RowsWithin}
+use Rattle.bits.specs.Sets.{Has, without, Meets}
+use Rattle.task.specs.Task.{Task}
 use Rattle.search_meaning.specs.Tasks.{useTask}
 use Rattle.first_shortest.specs.Posed.{Posed}
 

@@ -9,19 +9,19 @@ use native.Mathlib.Nat.{mul-le-mul-right}
 use native.Mathlib.Decide.{decLt}
 use lib.ListN.{length, getD, replicate, getD-replicate, length-replicate, List·getD-eq-default}
 use lib.Bits.{bitOr}
+use Rattle.spec.specs.Words.{_∈_}
 use Rattle.bits.specs.Sets.{Has, Meets}
 use Rattle.bits.proofs.Laws.{has-none, or-left, or-right}
-use Rattle.spec.specs.Words.{_∈_}
 use Rattle.task.specs.Task.{Task, posed, Sized, goals, targets, sourceTerm, widthOf, lastOf, rowOf, valueOf, Agrees, Completes, done, put}
-use Rattle.lookahead.specs.Taking.{Affords, Open}
 use Rattle.task.specs.Mapped.{InRows}
-use Rattle.lookahead.specs.Failure.{AgreesOn, Failed}
 use Rattle.task.specs.Terms.{stood}
+use Rattle.task.proofs.Slots.{value-code, stood-code, stood-value}
+use Rattle.lookahead.specs.Taking.{Affords, Open}
+use Rattle.lookahead.specs.Failure.{AgreesOn, Failed}
 use Rattle.lookahead.specs.Outlook.{UseEnd, SuitsTarget, HasTarget, Readable, Offers, SlotOf, SlotsOf, memberOf, Steady, Wanting, Most, noWants, fairly, vainly}
 use Rattle.lookahead.specs.Seen.{Seen, Outlooks}
 use Rattle.lookahead.specs.declared.reasons.Rows.{Rows}
 use Rattle.lookahead.specs.declared.Wants.{Wants}
-use Rattle.task.proofs.Slots.{value-code, stood-code, stood-value}
 use Rattle.lookahead.proofs.Taken.{affords-rows}
 use Rattle.lookahead.proofs.Total.{total, total-more, total-most}
 use Rattle.lookahead.proofs.Looking.{member-small}

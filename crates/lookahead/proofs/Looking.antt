@@ -15,9 +15,9 @@ use Rattle.bits.specs.Sets.{Has, has, with}
 use Rattle.bits.proofs.Laws.{has-true, true-has, has-none, with-new, with-old, with-cases}
 use Rattle.task.specs.Task.{Task, targets, sourceRelation, targetRelation, sourceTerm, targetTerm, widthOf, rowOf}
 use Rattle.task.specs.Terms.{stood, noting}
+use Rattle.task.proofs.Slots.{noting-new, noting-old, noting-cases}
 use Rattle.lookahead.specs.Outlook.{SameUse, UseEnd, MayBecome, Clashes, SuitsTarget, HasTarget, Offered, Offers, SlotOf, SlotsOf, memberOf, Steady, Wanting, Most}
 use Rattle.lookahead.specs.declared.Wants.{Wants}
-use Rattle.task.proofs.Slots.{noting-new, noting-old, noting-cases}
 
 -- no use ends from at up to i
 pub record UseGoesOn (lasts : List ℕ) (at i : ℕ) : Type 0 where

@@ -7,12 +7,12 @@ use Prim.Native.Nat.{ℕ, _-_, _≤_}
 use native.Mathlib.Omega.{arith}
 use native.Mathlib.Decide.{ℕ-discrete}
 use lib.ListN.{length}
+use Rattle.spec.specs.Words.{_∈_}
 use Rattle.bits.specs.Sets.{Has, has, with}
 use Rattle.bits.proofs.Laws.{has-true, true-has, with-new, with-old, with-cases}
-use Rattle.spec.specs.Words.{_∈_}
 use Rattle.task.specs.Task.{Task, rowOf}
-use Rattle.lookahead.specs.Taking.{Enters, leftAfter, Affords}
 use Rattle.task.specs.Mapped.{InRows}
+use Rattle.lookahead.specs.Taking.{Enters, leftAfter, Affords}
 use Rattle.lookahead.proofs.Without.{without, without-long, without-out, without-in}
 
 -- what entering makes of the rows left

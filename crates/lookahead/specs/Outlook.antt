@@ -8,8 +8,8 @@ use Prim.Native.Nat.{ℕ, suc, _+_, _*_, _/_, _%_, _^_, _<_, _≤_}
 use lib.ListN.{length, getD, replicate}
 use Rattle.bits.specs.Sets.{Has}
 use Rattle.task.specs.Task.{Task, goals, targets, sourceRelation, sourceTerm, targetRelation, targetTerm, widthOf, rowOf}
-use Rattle.lookahead.specs.Steps.{noReasons}
 use Rattle.task.specs.Terms.{stood}
+use Rattle.lookahead.specs.Steps.{noReasons}
 use Rattle.lookahead.specs.declared.Outlook.{Outlook}
 use Rattle.lookahead.specs.declared.Wants.{Wants}
 

@@ -6,11 +6,11 @@ use Prim.Native.Nat.{ℕ}
 use lib.Dec.{eqb}
 use lib.Bits.{bitOr}
 use Rattle.bits.specs.Sets.{Has, with, below32}
+use Rattle.task.specs.Terms.{noting}
 use Rattle.lookahead.specs.Taking.{Enters, leftAfter}
 use Rattle.lookahead.specs.declared.reasons.Reasons.{Reasons}
 use Rattle.lookahead.specs.declared.reasons.Rows.{Rows}
 use Rattle.lookahead.specs.declared.reasons.Entered.{Entered}
-use Rattle.task.specs.Terms.{noting}
 
 abbrev pub rowsOf : ℕ → ℕ → ℕ → Rows
 rowsOf used may left = record { used = used; may = may; left = left }

@@ -3,8 +3,8 @@ use mathlib.Core.Logic.{_⊎_}
 use mathlib.Core.Bool.{cond}
 use mathlib.Core.List.{List, [], _∷_}
 use Prim.Native.Nat.{ℕ, _-_, _<_}
-use Rattle.bits.specs.Sets.{Has, has, with}
 use Rattle.spec.specs.Words.{_∈_}
+use Rattle.bits.specs.Sets.{Has, has, with}
 use Rattle.task.specs.Task.{Task, rowOf}
 
 -- The same, target by target: a row in use is free, another is taken if it may be and some are left, and is then in use.

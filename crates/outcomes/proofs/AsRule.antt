@@ -7,15 +7,15 @@ use native.Mathlib.Omega.{arith}
 use lib.ListN.{length, getD, length-map}
 use Rattle.spec.specs.Words.{_∈_, Term, Subgoal, Rule, Fits}
 use Rattle.spec.specs.Summaries.{place, summary, Equivalent}
-use Rattle.spec.proofs.Lists.Counted.{place-within}
 use Rattle.spec.specs.Book.{Summary, Book, admittedOf}
-use Rattle.containment.proofs.Sound.{ruleOf, admitted-place}
 use Rattle.spec.specs.RuleLayout.{Layout, ruleBytes}
 use Rattle.spec.specs.BookLayout.{SoundBook, questionMost}
+use Rattle.spec.specs.Truth.{RewritingRule, Truth}
+use Rattle.spec.proofs.Lists.Counted.{place-within}
 use Rattle.spec.proofs.Bytes.RuleLaws.{layout-unique}
 use Rattle.spec.proofs.Bytes.BookUnique.{book-unique}
-use Rattle.spec.specs.Truth.{RewritingRule, Truth}
 use Rattle.spec.proofs.Bytes.HeadLengths.{headLengths}
+use Rattle.containment.proofs.Sound.{ruleOf, admitted-place}
 use Rattle.outcomes.proofs.Same.{true-equivalent}
 
 -- an admitted summary's number is one of the book's, and it is as wide as the table says

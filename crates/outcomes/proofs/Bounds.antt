@@ -7,12 +7,12 @@ use lib.ListN.{length, getD}
 use Rattle.spec.specs.Words.{_∈_, Term, var, con, Subgoal, Rule, Fits, becomes, each}
 use Rattle.spec.specs.Summaries.{Summaries, SummaryRow}
 use Rattle.spec.specs.Book.{Summary, Book, admittedOf}
-use Rattle.containment.proofs.Held.{Every}
-use Rattle.containment.proofs.Sound.{admitted-from}
 use Rattle.spec.specs.RuleLayout.{TermWithin, TermsWithin, RuleWithin}
 use Rattle.spec.specs.BookLayout.{Arities, SoundValue, SoundSummary, summaryMost}
-use Rattle.outcomes.specs.Bounds.{Bounds, RowsWithin}
 use Rattle.spec.proofs.Lists.Places.{getD-in}
+use Rattle.containment.proofs.Held.{Every}
+use Rattle.containment.proofs.Sound.{admitted-from}
+use Rattle.outcomes.specs.Bounds.{Bounds, RowsWithin}
 
 sound-admitted : (b : Book) → SoundValue b → Every (admittedOf b) (λ r. (m : Summary) × SoundSummary (b .arities) m × (m .rule ≡ r))
 sound-admitted b sound n r e = let w = admitted-from b n r e in (w .0, sound .summaries (w .0) (w .1), w .2)

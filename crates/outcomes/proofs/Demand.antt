@@ -8,19 +8,19 @@ use Rattle.spec.specs.Words.{Term, Subgoal, Rule, Facts, Listed, AllFit, Yields
 use Rattle.spec.specs.Summaries.{Summaries, HoldJust, rewriting}
 use Rattle.spec.specs.Book.{Book, admittedOf}
 use Rattle.spec.specs.Result.{Answered, Right}
-use Rattle.spec.proofs.Decided.Answered.{right-unique}
 use Rattle.spec.specs.Demand.{OverAdmitted, Demand3, DiffersSomewhere}
-use Rattle.containment.proofs.Demand3.{demand3}
-use Rattle.containment.proofs.Alone.{left-out-admitted, left-out-no-say}
 use Rattle.spec.specs.LeftOut.{SameButLeftOut}
-use Rattle.containment.proofs.Sound.{ruleOf}
-use Rattle.containment.proofs.Normal.{answer-few}
 use Rattle.spec.specs.BookLayout.{SoundBook}
-use Rattle.spec.proofs.Bytes.BookUnique.{book-unique}
 use Rattle.spec.specs.Refusals.{ofBook}
-use Rattle.spec.proofs.Bytes.Refused.{sound-unrefused}
 use Rattle.spec.specs.Table.{RewriterRefusal, read, nine, ten, Fault9, Fault10}
 use Rattle.spec.specs.Given.{Given}
+use Rattle.spec.proofs.Decided.Answered.{right-unique}
+use Rattle.spec.proofs.Bytes.BookUnique.{book-unique}
+use Rattle.spec.proofs.Bytes.Refused.{sound-unrefused}
+use Rattle.containment.proofs.Demand3.{demand3}
+use Rattle.containment.proofs.Alone.{left-out-admitted, left-out-no-say}
+use Rattle.containment.proofs.Sound.{ruleOf}
+use Rattle.containment.proofs.Normal.{answer-few}
 use Rattle.outcomes.proofs.Grants.{value-granted}
 
 module _ {book : List ℕ} {answer witness : ℕ} (g : Given book answer witness) where

@@ -2,10 +2,10 @@
 use mathlib.Core.List.{List}
 use Prim.Native.Nat.{ℕ}
 use Rattle.spec.specs.Book.{Book, Summary, admittedOf}
-use Rattle.spec.proofs.Decided.Sound.{AllSafe}
 use Rattle.spec.specs.BookLayout.{SoundValue, SoundBook}
-use Rattle.containment.proofs.Sound.{sound-safe}
 use Rattle.spec.specs.Demand.{Granted, GrantedSummary}
+use Rattle.spec.proofs.Decided.Sound.{AllSafe}
+use Rattle.containment.proofs.Sound.{sound-safe}
 
 pub value-granted : {b : Book} → SoundValue b → Granted b
 value-granted v = record {

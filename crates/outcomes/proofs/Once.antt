@@ -5,14 +5,14 @@ use mathlib.Core.List.{List}
 use Prim.Native.Nat.{ℕ}
 use Rattle.spec.specs.Book.{Book, admittedOf}
 use Rattle.spec.specs.Result.{Answered, Right}
-use Rattle.spec.proofs.Decided.Answered.{right-unique}
 use Rattle.spec.specs.BookLayout.{SoundBook}
 use Rattle.spec.specs.declared.Reason.{Reason}
+use Rattle.spec.specs.Table.{Fault1, Fault9, Fault10, RewriterRefusal, one, read, nine, ten}
+use Rattle.spec.specs.Given.{Given}
+use Rattle.spec.proofs.Decided.Answered.{right-unique}
 use Rattle.spec.proofs.Bytes.BookUnique.{book-unique}
 use Rattle.spec.proofs.Bytes.RefusedOnce.{refused-once}
 use Rattle.spec.proofs.Bytes.Refused.{sound-unrefused}
-use Rattle.spec.specs.Table.{Fault1, Fault9, Fault10, RewriterRefusal, one, read, nine, ten}
-use Rattle.spec.specs.Given.{Given}
 
 module _ (book : List ℕ) (answer witness : ℕ) where
   pub given-value : (g h : Given book answer witness) → g .value ≡ h .value

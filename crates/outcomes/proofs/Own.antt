@@ -10,9 +10,9 @@ use Rattle.spec.specs.Answer.{AtPairs, There}
 use Rattle.spec.specs.Book.{Book, admittedOf}
 use Rattle.spec.specs.RuleLayout.{TermsWithin}
 use Rattle.spec.specs.Given.{answerBytes, witnessBytes, Given}
+use Rattle.spec.specs.Truth.{RewritingRule, Truth}
 use Rattle.outcomes.proofs.Demand.{given-few}
 use Rattle.outcomes.proofs.Bounds.{book-bounds, rows-bounds}
-use Rattle.spec.specs.Truth.{RewritingRule, Truth}
 
 -- no rows give no place for a subgoal
 no-place : {A : Type 0} (bytes : List ℕ) (t : A) (ts : List A) → AtPairs [] bytes (t ∷ ts) → ⊥

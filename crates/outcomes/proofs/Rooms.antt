@@ -9,13 +9,13 @@ use Rattle.spec.specs.Words.{_∈_, Term, con, Subgoal, Rule, becomes, each}
 use Rattle.spec.specs.Summaries.{place, Summaries, summary, orEmpty, definition, Own, inUse, inPlace, uses, joined, expansion, rewriting}
 use Rattle.spec.specs.Answer.{Sends, AtPlaces, AtPairs, There, Back}
 use Rattle.spec.specs.Book.{Book, admittedOf}
-use Rattle.containment.proofs.Sound.{admitted-from}
 use Rattle.spec.specs.RuleLayout.{ruleBytes}
 use Rattle.spec.specs.BookLayout.{SoundValue}
-use Rattle.spec.proofs.Bytes.Sizes.{rule-most}
-use Rattle.spec.proofs.Lists.Joined.{joined-most}
 use Rattle.spec.specs.Table.{answerRoom, witnessRoom}
 use Rattle.spec.specs.Given.{Given, answerBytes, witnessBytes}
+use Rattle.spec.proofs.Bytes.Sizes.{rule-most}
+use Rattle.spec.proofs.Lists.Joined.{joined-most}
+use Rattle.containment.proofs.Sound.{admitted-from}
 use Rattle.outcomes.proofs.Demand.{given-few}
 
 -- the two parts are as long as what they place

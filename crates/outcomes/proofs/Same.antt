@@ -5,12 +5,12 @@ use Prim.Native.Nat.{ℕ}
 use Rattle.spec.specs.Words.{Subgoal, Facts, Listed, AllFit, Yields, itself}
 use Rattle.spec.specs.Summaries.{HoldJust, Equivalent}
 use Rattle.spec.specs.Book.{admittedOf}
+use Rattle.spec.specs.Truth.{Truth}
 use Rattle.spec.proofs.Decided.WitnessExists.{there-maps, back-maps}
 use Rattle.containment.proofs.Suit.{over-suit-all}
 use Rattle.containment.proofs.Same.{equivalent-held}
 use Rattle.containment.proofs.Sound.{sound-distinct}
 use Rattle.outcomes.proofs.Grants.{value-granted}
-use Rattle.spec.specs.Truth.{Truth}
 
 module _ {book rewriting witness : List ℕ} (t : Truth book rewriting witness) where
   pub true-equivalent : Equivalent (admittedOf (t .value)) (t .value .question) (t .rule)

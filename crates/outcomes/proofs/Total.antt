@@ -9,19 +9,19 @@ use Rattle.spec.specs.Words.{Term, Subgoal, Rule}
 use Rattle.spec.specs.Summaries.{Summaries}
 use Rattle.spec.specs.Answer.{Rewrites}
 use Rattle.spec.specs.Book.{Book, admittedOf}
-use Rattle.spec.proofs.Decided.Sound.{AllSafe}
-use Rattle.spec.proofs.Decided.Answered.{right-exists}
-use Rattle.spec.proofs.Decided.Rows.{allRows, allRows-sound, allRows-ascending}
-use Rattle.spec.proofs.Decided.RowCount.{rows-within}
-use Rattle.containment.proofs.Normal.{any-decided}
 use Rattle.spec.specs.Numbers.{Bytes}
 use Rattle.spec.specs.BookLayout.{SoundBook}
 use Rattle.spec.specs.declared.Reason.{Reason}
 use Rattle.spec.specs.Refusals.{ofBook}
-use Rattle.spec.proofs.Bytes.Refused.{sound-or-refused}
-use Rattle.spec.proofs.Bytes.Refused as reading
 use Rattle.spec.specs.Table.{mostRows, answerRoom, witnessRoom, Fault1, Fault9, RewriterRefusal, one, read, nine, ten}
 use Rattle.spec.specs.Given.{Given}
+use Rattle.spec.proofs.Decided.Sound.{AllSafe}
+use Rattle.spec.proofs.Decided.Answered.{right-exists}
+use Rattle.spec.proofs.Decided.Rows.{allRows, allRows-sound, allRows-ascending}
+use Rattle.spec.proofs.Decided.RowCount.{rows-within}
+use Rattle.spec.proofs.Bytes.Refused.{sound-or-refused}
+use Rattle.spec.proofs.Bytes.Refused as reading
+use Rattle.containment.proofs.Normal.{any-decided}
 use Rattle.outcomes.proofs.Grants.{value-safe}
 
 -- "more than 64 summary rows": the list of all rows has more

@@ -6,11 +6,11 @@ use Prim.Native.Nat.{ℕ}
 use Rattle.spec.specs.Words.{Rule}
 use Rattle.spec.specs.Summaries.{Equivalent}
 use Rattle.spec.specs.Book.{Book, admittedOf}
-use Rattle.spec.proofs.Decided.WitnessExists.{maps-there, maps-back}
 use Rattle.spec.specs.RuleLayout.{ruleBytes}
 use Rattle.spec.specs.BookLayout.{SoundBook}
-use Rattle.spec.proofs.Bytes.BookUnique.{book-unique}
 use Rattle.spec.specs.Truth.{RewritingRule, Truth}
+use Rattle.spec.proofs.Decided.WitnessExists.{maps-there, maps-back}
+use Rattle.spec.proofs.Bytes.BookUnique.{book-unique}
 use Rattle.outcomes.proofs.Same.{true-equivalent}
 
 module _ {book : List ℕ} (b : Book) (sound : SoundBook book b) (r : Rule ℕ) (is : RewritingRule b r) where

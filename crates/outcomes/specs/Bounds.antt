@@ -5,10 +5,10 @@ use mathlib.Core.List.{List}
 use Prim.Native.Nat.{ℕ}
 use Rattle.spec.specs.Words.{_∈_, Term, Subgoal, Rule}
 use Rattle.spec.specs.Summaries.{Summaries, summary}
-use Rattle.spec.proofs.Decided.Sound.{AllSafe}
-use Rattle.containment.proofs.Held.{Every}
 use Rattle.spec.specs.RuleLayout.{TermsWithin, RuleWithin}
 use Rattle.spec.specs.BookLayout.{Arities, questionMost, summaryMost}
+use Rattle.spec.proofs.Decided.Sound.{AllSafe}
+use Rattle.containment.proofs.Held.{Every}
 
 -- The bounds of a sound book: of its question, and of its admitted summaries.
 pub record Bounds (arities : List ℕ) (s : Summaries) (q : Rule ℕ) : Type 0 where

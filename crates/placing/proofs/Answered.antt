@@ -8,29 +8,29 @@ use native.Mathlib.Omega.{arith}
 use native.Mathlib.Decide.{ℕ-discrete, decLt}
 use native.Mathlib.Numerals.{add-one}
 use lib.ListN.{length, getD, set, replicate}
-use Rattle.bits.specs.Sets.{Has, with}
 use Rattle.spec.specs.Order.{ListBefore, First}
+use Rattle.bits.specs.Sets.{Has, with}
 use Rattle.task.specs.Task.{Task, goals, targets, targetRelation, sourceRelation, widthOf, lastOf, rowOf, Completes, done}
-use Rattle.lookahead.specs.Taking.{Enters, leftAfter, Affords, Open}
-use Rattle.placing.specs.FirstPlaces.{laid}
-use Rattle.lookahead.specs.Failure.{AgreesOn, Failed}
-use Rattle.placing.specs.Answer.{Afforded, SearchSays}
 use Rattle.task.specs.Completion.{Completion}
-use Rattle.lookahead.specs.Steps.{Entering, Hopeless, Settled, entering, seeing}
 use Rattle.task.specs.Terms.{Opened}
-use Rattle.placing.specs.Steps.{carrying, found, failed}
+use Rattle.task.proofs.Guess.{Guess}
+use Rattle.task.proofs.Onward.{step, after, onward}
+use Rattle.lookahead.specs.Taking.{Enters, leftAfter, Affords, Open}
+use Rattle.lookahead.specs.Failure.{AgreesOn, Failed}
+use Rattle.lookahead.specs.Steps.{Entering, Hopeless, Settled, entering, seeing}
 use Rattle.lookahead.specs.Seen.{Outlooks}
 use Rattle.lookahead.specs.declared.reasons.Reasons.{Reasons}
-use Rattle.placing.specs.declared.Placed.{Placed}
 use Rattle.lookahead.specs.declared.reasons.Rows.{Rows}
 use Rattle.lookahead.specs.declared.reasons.Entered.{Entered}
 use Rattle.lookahead.specs.declared.Outlook.{Outlook}
-use Rattle.task.proofs.Guess.{Guess}
-use Rattle.placing.proofs.Open.{open-with, open-tail, affords-open}
 use Rattle.lookahead.proofs.Taken.{affords-free}
+use Rattle.placing.specs.FirstPlaces.{laid}
+use Rattle.placing.specs.Answer.{Afforded, SearchSays}
+use Rattle.placing.specs.Steps.{carrying, found, failed}
+use Rattle.placing.specs.declared.Placed.{Placed}
+use Rattle.placing.proofs.Open.{open-with, open-tail, affords-open}
 use Rattle.placing.proofs.Laid.{laid-none, laid-put}
 use Rattle.placing.proofs.ReasonsCarried.{carry}
-use Rattle.task.proofs.Onward.{step, after, onward}
 use Rattle.placing.proofs.Refuted.{WayOn, Refuted}
 
 module _ (p : Task) (at : ℕ) (b : List ℕ) (rows : Rows) (more : at < goals p) where

@@ -3,9 +3,9 @@ use mathlib.Core.Path.{_≡_, sym, subst}
 use mathlib.Core.Logic.{_⊎_, inl, inr}
 use mathlib.Core.List.{List, [], _∷_, List·Memᴰ·head, List·Memᴰ·tail, List·Memᴰ·not-nil}
 use Prim.Native.Nat.{ℕ}
+use Rattle.spec.specs.Words.{_∈_}
 use Rattle.bits.specs.Sets.{Has, with}
 use Rattle.bits.proofs.Laws.{with-old, with-cases}
-use Rattle.spec.specs.Words.{_∈_}
 use Rattle.task.specs.Task.{Task, rowOf}
 use Rattle.lookahead.specs.Taking.{Enters, leftAfter, Affords, Open}
 

@@ -9,11 +9,11 @@ use borrow.Author.Tests.{eq-eqb, ne-eqb}
 use Rattle.bits.specs.Sets.{Has}
 use Rattle.bits.proofs.Laws.{low-has}
 use Rattle.task.specs.Task.{Task, lastOf, Linked}
+use Rattle.task.specs.Terms.{Opened}
+use Rattle.task.proofs.Crossing.{through}
 use Rattle.lookahead.specs.Failure.{AgreesOn}
 use Rattle.lookahead.specs.Steps.{seeing}
-use Rattle.task.specs.Terms.{Opened}
 use Rattle.lookahead.specs.declared.reasons.Reasons.{Reasons}
-use Rattle.task.proofs.Crossing.{through}
 
 module _ (p : Task) (at : ℕ) (g h : List ℕ) (o : Opened (lastOf p at) g h) where
   -- a reason that is bound is seen

@@ -10,15 +10,15 @@ use lib.ListN.{length, getD, List·getD-eq-default}
 use Rattle.bits.specs.Sets.{Has}
 use Rattle.bits.proofs.Laws.{or-left, or-right}
 use Rattle.task.specs.Task.{Task, goals, targetRelation, sourceRelation, sourceTerm, targetTerm, widthOf, lastOf, rowOf, Agrees, Linked, Completes}
+use Rattle.task.specs.Terms.{stood, Opened}
+use Rattle.task.proofs.Slots.{stood-value, noting-new, noting-old}
+use Rattle.task.proofs.Guess.{Guess, TermsAgree, guess-known}
 use Rattle.lookahead.specs.Taking.{Affords, Open}
 use Rattle.lookahead.specs.Failure.{AgreesOn, Failed}
 use Rattle.lookahead.specs.Steps.{blaming, shorting, joining, seeing, entering, Entering}
-use Rattle.task.specs.Terms.{stood, Opened}
 use Rattle.lookahead.specs.declared.reasons.Reasons.{Reasons}
 use Rattle.lookahead.specs.declared.reasons.Rows.{Rows}
 use Rattle.lookahead.specs.declared.reasons.Entered.{Entered}
-use Rattle.task.proofs.Slots.{stood-value, noting-new, noting-old}
-use Rattle.task.proofs.Guess.{Guess, TermsAgree, guess-known}
 use Rattle.placing.proofs.Open.{open-with, open-tail}
 use Rattle.placing.proofs.ReasonsCarried.{carry}
 

@@ -3,12 +3,12 @@ use mathlib.Core.Bool.{Bool, true, false}
 use mathlib.Core.Path.{_≡_, refl, ap, sym, _∙_}
 use mathlib.Core.List.{List}
 use Prim.Native.Nat.{ℕ}
-use Rattle.bits.proofs.Laws.{exactly-once}
 use Rattle.spec.proofs.Lists.Strict.{first-unique}
 use Rattle.spec.proofs.Decided.Orders.{bytesOrder}
+use Rattle.bits.proofs.Laws.{exactly-once}
 use Rattle.task.specs.Task.{Task}
-use Rattle.placing.specs.FirstPlaces.{laid, FirstOf, FirstPlaces, Enough}
 use Rattle.task.specs.Mapped.{Feasible}
+use Rattle.placing.specs.FirstPlaces.{laid, FirstOf, FirstPlaces, Enough}
 use Rattle.placing.specs.Answer.{PlacesFrom}
 use Rattle.placing.specs.declared.Places.{Places}
 

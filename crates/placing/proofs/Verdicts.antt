@@ -6,23 +6,23 @@ use mathlib.Core.List.{List, []}
 use Prim.Native.Nat.{ℕ, _<_, _≤_}
 use native.Mathlib.Omega.{arith}
 use lib.ListN.{replicate}
+use Rattle.spec.specs.Order.{ListBefore, First}
 use Rattle.bits.specs.Sets.{Has}
 use Rattle.bits.proofs.Laws.{all-has}
-use Rattle.spec.specs.Order.{ListBefore, First}
 use Rattle.task.specs.Task.{Task, Sized, rowOf}
-use Rattle.lookahead.specs.Taking.{Affords}
-use Rattle.placing.specs.FirstPlaces.{laid, FirstPlaces, Enough}
 use Rattle.task.specs.Mapped.{Mapped, Feasible}
-use Rattle.placing.specs.Answer.{Afforded, SearchSays, PlacesFrom}
 use Rattle.task.specs.Completion.{Completion}
+use Rattle.task.proofs.Chain.{completion-mapped, mapped-completion}
+use Rattle.lookahead.specs.Taking.{Affords}
 use Rattle.lookahead.specs.Steps.{rowsOf}
 use Rattle.lookahead.specs.declared.reasons.Rows.{Rows}
+use Rattle.lookahead.proofs.Taken.{rows-affords, affords-rows}
+use Rattle.placing.specs.FirstPlaces.{laid, FirstPlaces, Enough}
+use Rattle.placing.specs.Answer.{Afforded, SearchSays, PlacesFrom}
 use Rattle.placing.specs.declared.Placed.{Placed}
 use Rattle.placing.specs.declared.Places.{Places}
 use Rattle.placing.proofs.Open.{affords-open, affords-used}
-use Rattle.lookahead.proofs.Taken.{rows-affords, affords-rows}
 use Rattle.placing.proofs.Laid.{laid-none}
-use Rattle.task.proofs.Chain.{completion-mapped, mapped-completion}
 
 -- the first of the one is the first of the other, where both say the same
 first-alike : {A : Type 0} {P Q : A → Type 0} {Before : A → A → Type 0} → ((a : A) → P a → Q a) → ((a : A) → Q a → P a) → (a : A) → First P Before a → First Q Before a

@@ -5,13 +5,13 @@ use mathlib.Core.List.{List}
 use Prim.Native.Nat.{ℕ, _<_}
 use Rattle.spec.specs.Order.{ListBefore, First}
 use Rattle.task.specs.Task.{Task}
+use Rattle.task.specs.Completion.{Completion}
 use Rattle.lookahead.specs.Taking.{Affords}
 use Rattle.lookahead.specs.declared.reasons.Rows.{Rows}
 use Rattle.lookahead.specs.Failure.{Failed}
 use Rattle.placing.specs.FirstPlaces.{laid, FirstOf}
 use Rattle.placing.specs.declared.Placed.{Placed}
 use Rattle.placing.specs.declared.Places.{Places}
-use Rattle.task.specs.Completion.{Completion}
 
 -- .. and the rows allow it
 pub record Afforded (p : Task) (at : ℕ) (b : List ℕ) (rows : Rows) (l : List ℕ) : Type 0 where

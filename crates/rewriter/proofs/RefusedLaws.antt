@@ -6,24 +6,24 @@ use mathlib.Core.List.{List}
 use Prim.Native.Nat.{ℕ, _*_, _<_, _≤_}
 use native.Mathlib.Omega.{arith}
 use lib.ListN.{length, drop}
-use Rattle.spec.proofs.Decided.Rows.{allRows}
 use Rattle.spec.specs.Book.{Book, admittedOf}
 use Rattle.spec.specs.BookLayout.{SoundBook}
 use Rattle.spec.specs.declared.Reason.{Reason}
 use Rattle.spec.specs.Refusals.{ofBook, Refusal}
-use Rattle.row_list.specs.Listing.{Sought, AllStand, RowsOver, ListedSays, ListSays}
-use Rattle.row_list.specs.declared.RowsListed.{RowsListed}
-use Rattle.row_list.specs.declared.RowsListed.the-variants.{All, Over}
 use Rattle.spec.specs.Reading.{ReadingSays}
 use Rattle.spec.specs.declared.Reading.{Reading}
 use Rattle.spec.specs.declared.Reading.the-variants.{Sound, Refused}
 use Rattle.spec.specs.Table.{Fault1, Fault9, Fault10, RewriterRefusal, one, read, nine, ten, answerRoom, witnessRoom, mostRows}
+use Rattle.spec.specs.Rewriting.{TurnedDown}
+use Rattle.spec.proofs.Decided.Rows.{allRows}
 use Rattle.outcomes.proofs.Grants.{value-safe}
 use Rattle.outcomes.proofs.Total.{fault-9}
+use Rattle.row_list.specs.Listing.{Sought, AllStand, RowsOver, ListedSays, ListSays}
+use Rattle.row_list.specs.declared.RowsListed.{RowsListed}
+use Rattle.row_list.specs.declared.RowsListed.the-variants.{All, Over}
 use Rattle.first_shortest.specs.Chosen.{ChosenBy, Found, NotFound}
 use Rattle.first_shortest.specs.declared.Chosen.{Chosen}
 use Rattle.row_choice.specs.Asked.{ChoiceNeedsOf, ChoiceNeeds, RowsChosen}
-use Rattle.spec.specs.Rewriting.{TurnedDown}
 use Rattle.answer.specs.Steps.{ChosenPut}
 use Rattle.answer.proofs.ChosenLaws.{few-rows}
 use Rattle.rewriter.specs.Steps.{Sounds, Rowed}

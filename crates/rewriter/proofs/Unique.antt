@@ -3,11 +3,11 @@ use mathlib.Core.Path.{_≡_, sym, ap, ap₂, _∙_}
 use mathlib.Core.List.{List}
 use Prim.Native.Nat.{ℕ}
 use lib.ListN.{length}
-use Rattle.outcomes.proofs.Once.{given-unrefused, refused-same}
-use Rattle.answer.proofs.Unique.{accepted-once}
 use Rattle.spec.specs.Rewriting.{Rewriting}
 use Rattle.spec.specs.declared.Outcome.{Outcome}
 use Rattle.spec.specs.declared.Outcome.the-variants.{Done, Refused}
+use Rattle.outcomes.proofs.Once.{given-unrefused, refused-same}
+use Rattle.answer.proofs.Unique.{accepted-once}
 
 module _ (book a w : List ℕ) where
   pub rewriting-once : (r r′ : Outcome) (a₁ a₂ w₁ w₂ : List ℕ) → Rewriting book a a₁ w w₁ r → Rewriting book a a₂ w w₂ r′ → (r ≡ r′) × (a₁ ≡ a₂) × (w₁ ≡ w₂)

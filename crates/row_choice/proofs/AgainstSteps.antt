@@ -9,18 +9,18 @@ use native.Mathlib.Decide.{decLt}
 use lib.ListN.{length, getD, take, drop, take-append-drop}
 use lib.Seq.{drop-nil}
 use Rattle.spec.specs.Summaries.{Summaries, inPlace, uses, joined}
-use Rattle.bits.specs.Sets.{Has, with}
-use Rattle.bits.proofs.Laws.{has-none, with-new, with-old, with-cases}
-use Rattle.codes.specs.Code.{ownCode, codesOf}
+use Rattle.spec.specs.Given.{atFront}
 use Rattle.choice_theory.specs.Numbered.{RowList, rowAt}
 use Rattle.choice_theory.specs.Dominates.{Dominates}
-use Rattle.search_meaning.proofs.InUse.{uses-few}
-use Rattle.search_meaning.proofs.Owners.{uses-long}
+use Rattle.codes.specs.Code.{ownCode, codesOf}
 use Rattle.codes.proofs.Padded.{codes-length}
-use Rattle.spec.specs.Given.{atFront}
 use Rattle.book_codes.specs.Insides.{starts}
 use Rattle.book_codes.proofs.Beginnings.{starts-long}
 use Rattle.book_codes.proofs.Read.{UsePart, use-part}
+use Rattle.bits.specs.Sets.{Has, with}
+use Rattle.bits.proofs.Laws.{has-none, with-new, with-old, with-cases}
+use Rattle.search_meaning.proofs.InUse.{uses-few}
+use Rattle.search_meaning.proofs.Owners.{uses-long}
 use Rattle.row_choice.specs.Dominators.{Pair, SomePair, TellsPair, Against, SomeAgainst, TellsAgainst}
 
 -- The codes between where row d's use begins and where the next does.

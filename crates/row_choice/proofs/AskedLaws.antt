@@ -4,8 +4,8 @@ use mathlib.Core.List.{List}
 use Prim.Native.Nat.{ℕ, _*_, _≤_}
 use lib.ListN.{length, take}
 use lib.Seq.{take-at}
-use Rattle.spec.proofs.Decided.Rows.{allRows, allRows-sound}
 use Rattle.spec.specs.Book.{Book, admittedOf}
+use Rattle.spec.proofs.Decided.Rows.{allRows, allRows-sound}
 use Rattle.codes.specs.Code.{termCode, codesOf}
 use Rattle.codes.proofs.Padded.{codes-length}
 use Rattle.book_codes.specs.Question.{SomeSound}

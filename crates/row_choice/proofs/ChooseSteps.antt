@@ -6,14 +6,14 @@ use native.Mathlib.Omega.{arith}
 use lib.ListN.{take, replicate}
 use lib.Seq.{length-take-le}
 use Rattle.spec.specs.Words.{Term, Subgoal}
-use Rattle.spec.proofs.Decided.Rows.{allRows, allRows-enumerate}
 use Rattle.spec.specs.Book.{Book, admittedOf}
+use Rattle.spec.proofs.Decided.Rows.{allRows, allRows-enumerate}
 use Rattle.choice_theory.specs.Numbered.{RowList}
-use Rattle.task.specs.Task.{Task, posed}
 use Rattle.outcomes.proofs.Bounds.{book-bounds}
 use Rattle.book_codes.specs.Question.{QuestionSource, QuestionBound}
-use Rattle.book_codes.proofs.Lent.{goals-few, source-codes, source-widths}
 use Rattle.book_codes.specs.RowsGiven.{RowsOf}
+use Rattle.book_codes.proofs.Lent.{goals-few, source-codes, source-widths}
+use Rattle.task.specs.Task.{Task, posed}
 use Rattle.first_shortest.specs.Posed.{PosedBy}
 use Rattle.first_shortest.specs.Pruning.{Table, PosedWith}
 use Rattle.first_shortest.specs.Chosen.{Chooses}

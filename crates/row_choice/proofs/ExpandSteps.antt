@@ -8,15 +8,15 @@ use lib.Seq.{take-at, length-take-le}
 use Rattle.spec.specs.Words.{Term, Subgoal}
 use Rattle.spec.specs.Summaries.{Own, uses, joined}
 use Rattle.spec.specs.Book.{admittedOf}
-use Rattle.codes.specs.Code.{ownCode, codesOf}
 use Rattle.choice_theory.specs.Placed.{owners}
 use Rattle.outcomes.proofs.Bounds.{book-bounds}
-use Rattle.search_meaning.proofs.InUse.{uses-few}
-use Rattle.search_meaning.proofs.Owners.{owners-long}
-use Rattle.rule_codes.proofs.Stores.{front-length}
+use Rattle.codes.specs.Code.{ownCode, codesOf}
 use Rattle.codes.proofs.Padded.{codes-length}
+use Rattle.rule_codes.proofs.Stores.{front-length}
 use Rattle.book_codes.specs.RowsGiven.{RowsGiven}
 use Rattle.book_codes.specs.AllUses.{GoalsCounted, AllCodes, AllOwners}
+use Rattle.search_meaning.proofs.InUse.{uses-few}
+use Rattle.search_meaning.proofs.Owners.{owners-long}
 use Rattle.row_choice.specs.Targets.{Targets, Owners}
 
 module _ {book rows : List ℕ} {n goals : ℕ} (g : RowsGiven book rows n) (few : n ≤ 64) (counted : GoalsCounted book rows n goals)

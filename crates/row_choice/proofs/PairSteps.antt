@@ -10,16 +10,16 @@ use lib.Seq.{length-take-le}
 use Rattle.spec.specs.Words.{Term, Subgoal}
 use Rattle.spec.specs.Summaries.{Summaries, Own, inPlace}
 use Rattle.spec.proofs.Lists.Places.{getD-in}
-use Rattle.codes.specs.Code.{ownCode, keptSlot}
-use Rattle.choice_theory.specs.Numbered.{RowList, nothing, rowAt}
 use Rattle.spec.proofs.Lists.At.{in-getD}
+use Rattle.spec.proofs.Lists.Zeros.{zeros-at}
+use Rattle.choice_theory.specs.Numbered.{RowList, nothing, rowAt}
 use Rattle.choice_theory.specs.Dominates.{Dominates}
+use Rattle.codes.specs.Code.{ownCode, keptSlot}
+use Rattle.codes.proofs.Padded.{codes-length, widths-length}
 use Rattle.task.specs.Task.{posed}
 use Rattle.search_meaning.proofs.AtCodes.{relation-at}
 use Rattle.search_meaning.proofs.InUse.{use-few, use-some}
-use Rattle.codes.proofs.Padded.{codes-length, widths-length}
 use Rattle.first_shortest.specs.Pruning.{UsesBy, Uses, TellsDominance}
-use Rattle.spec.proofs.Lists.Zeros.{zeros-at}
 use Rattle.row_choice.specs.Dominators.{SoundRows, Pair, SomePair, NoRelation, TellsPair}
 
 -- one subgoal more that is not of the relation

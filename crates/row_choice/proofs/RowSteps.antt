@@ -7,11 +7,11 @@ use lib.ListN.{length, take, drop}
 use lib.Seq.{take-at, length-take-le}
 use Rattle.spec.specs.Summaries.{inPlace}
 use Rattle.spec.specs.Book.{Book, admittedOf}
-use Rattle.codes.specs.Code.{keptSlot, codesOf, widthsOf}
 use Rattle.choice_theory.specs.Numbered.{RowList, rowAt}
 use Rattle.outcomes.proofs.Bounds.{book-bounds}
-use Rattle.rule_codes.proofs.Stores.{front-length}
+use Rattle.codes.specs.Code.{keptSlot, codesOf, widthsOf}
 use Rattle.codes.proofs.Padded.{codes-length, widths-length}
+use Rattle.rule_codes.proofs.Stores.{front-length}
 use Rattle.book_codes.specs.OneUse.{OneUse, OneWidths}
 use Rattle.book_codes.specs.RowsGiven.{RowsOf, RowsGiven}
 use Rattle.book_codes.proofs.Growing.{rowFrom, row-of}

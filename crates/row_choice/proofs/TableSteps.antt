@@ -9,11 +9,11 @@ use lib.Seq.{take-at, getD-set-same, getD-set-other}
 use Rattle.spec.specs.Summaries.{uses}
 use Rattle.spec.specs.Book.{Book, admittedOf}
 use Rattle.choice_theory.specs.Numbered.{RowList}
-use Rattle.search_meaning.proofs.Owners.{uses-long}
 use Rattle.book_codes.specs.RowsGiven.{RowsOf}
 use Rattle.book_codes.specs.Insides.{starts}
 use Rattle.book_codes.specs.AllUses.{AllStarts}
 use Rattle.book_codes.proofs.Beginnings.{starts-long}
+use Rattle.search_meaning.proofs.Owners.{uses-long}
 use Rattle.row_choice.specs.Dominators.{Dominators, RowsAsTargets, DominatorsOf}
 use Rattle.row_choice.specs.Targets.{Targets}
 use Rattle.row_choice.specs.Dominance.{Dominance}

@@ -3,9 +3,9 @@ use mathlib.Core.Path.{_≡_}
 use mathlib.Core.List.{List, _++_}
 use Prim.Native.Nat.{ℕ, _≤_}
 use lib.ListN.{length}
-use Rattle.spec.proofs.Decided.Rows.{allRows}
 use Rattle.spec.specs.Book.{Book, admittedOf}
 use Rattle.spec.specs.BookLayout.{SoundBook}
+use Rattle.spec.proofs.Decided.Rows.{allRows}
 use Rattle.codes.specs.Code.{termCode, codesOf}
 use Rattle.first_shortest.specs.Chosen.{ChosenBy}
 use Rattle.first_shortest.specs.declared.Chosen.{Chosen}

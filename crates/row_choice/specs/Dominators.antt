@@ -8,13 +8,13 @@ use lib.ListN.{length, getD, take}
 use Rattle.spec.specs.Words.{Rule}
 use Rattle.spec.specs.Summaries.{Summaries, inPlace, uses, joined}
 use Rattle.spec.specs.Book.{Book, admittedOf}
-use Rattle.bits.specs.Sets.{Has}
-use Rattle.codes.specs.Code.{ownCode, keptSlot, codesOf, widthsOf}
 use Rattle.choice_theory.specs.Numbered.{RowList, rowAt}
 use Rattle.choice_theory.specs.Dominates.{Dominates}
 use Rattle.outcomes.specs.Bounds.{Bounds, RowsWithin}
+use Rattle.codes.specs.Code.{ownCode, keptSlot, codesOf, widthsOf}
 use Rattle.book_codes.specs.RowsGiven.{RowsOf}
 use Rattle.book_codes.specs.Insides.{starts}
+use Rattle.bits.specs.Sets.{Has}
 
 -- The rows are those of some sound book.
 pub record SoundRows (s : Summaries) (rows : RowList) : Type 0 where

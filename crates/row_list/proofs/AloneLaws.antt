@@ -6,13 +6,13 @@ use native.Mathlib.Omega.{arith}
 use lib.ListN.{length, getD, take, set, length-map}
 use lib.Seq.{sets}
 use Rattle.spec.specs.Words.{Term, itself}
-use Rattle.codes.specs.Code.{subgoalCodes, codesOf}
 use Rattle.spec.specs.Given.{atFront}
-use Rattle.rule_codes.proofs.Stores.{stores-more, stores-end, front-more}
-use Rattle.codes.proofs.Padded.{padded-at, codes-length}
-use Rattle.choice_theory.specs.Numbered.{nothing}
-use Rattle.search_meaning.proofs.AtCodes.{codes-get}
 use Rattle.spec.proofs.Lists.At.{map-get}
+use Rattle.choice_theory.specs.Numbered.{nothing}
+use Rattle.codes.specs.Code.{subgoalCodes, codesOf}
+use Rattle.codes.proofs.Padded.{padded-at, codes-length}
+use Rattle.rule_codes.proofs.Stores.{stores-more, stores-end, front-more}
+use Rattle.search_meaning.proofs.AtCodes.{codes-get}
 use Rattle.summary_rows.specs.RowTask.{alone}
 use Rattle.row_list.specs.Alone.{aloneOf, aloneCode, aloneCodes}
 

@@ -6,8 +6,8 @@ use native.Mathlib.Omega.{arith}
 use lib.ListN.{length, take, drop, length-append, length-drop, drop-of-length-le}
 use lib.Seq.{drop-at, drop-drop}
 use Rattle.spec.specs.Given.{atFront}
-use Rattle.rule_codes.proofs.Stores.{front-length, front-again}
 use Rattle.spec.proofs.Lists.Parts.{to-end}
+use Rattle.rule_codes.proofs.Stores.{front-length, front-again}
 
 pub part-long : (a : ℕ) (l : List ℕ) → length (take (length l - a) (drop a l)) ≡ length l - a
 part-long a l = ap length (to-end l a) ∙ length-drop a l

@@ -8,21 +8,21 @@ use native.Mathlib.Omega.{arith}
 use lib.ListN.{length, take, drop, length-append, length-drop, length-map}
 use lib.Seq.{length-take-le}
 use Rattle.spec.specs.Words.{Rule}
-use Rattle.spec.proofs.Lists.Tests.{passes, fails}
 use Rattle.spec.specs.Summaries.{summary}
-use Rattle.spec.proofs.Decided.Sound.{AllSafe}
 use Rattle.spec.specs.Book.{Book, ifTrue, admittedOf}
 use Rattle.spec.specs.Refresh.{admitted}
-use Rattle.spec.proofs.Decided.Rows.{allRows}
 use Rattle.spec.specs.BookLayout.{SoundBook}
 use Rattle.spec.specs.Contents.{count}
+use Rattle.spec.specs.Table.{mostRows}
+use Rattle.spec.proofs.Lists.Tests.{passes, fails}
+use Rattle.spec.proofs.Decided.Sound.{AllSafe}
+use Rattle.spec.proofs.Decided.Rows.{allRows}
 use Rattle.spec.proofs.Bytes.BookStands.{book-count}
 use Rattle.spec.proofs.Bytes.BookPasses.{book-loads}
 use Rattle.spec.proofs.Bytes.Within.{entries-some, loads-room}
+use Rattle.outcomes.proofs.Bounds.{book-bounds}
 use Rattle.codes.specs.Code.{termCode, codesOf}
 use Rattle.codes.proofs.Padded.{codes-length}
-use Rattle.outcomes.proofs.Bounds.{book-bounds}
-use Rattle.spec.specs.Table.{mostRows}
 use Rattle.summary_rows.specs.Tables.{TableTo}
 use Rattle.summary_rows.specs.declared.Tally.{Tally}
 use Rattle.summary_rows.proofs.TableLaws.{table-none, table-skip, table-more, table-over, over-codes, table-all}

@@ -13,16 +13,16 @@ use Rattle.spec.specs.Contents.{entriesIn, partAt}
 use Rattle.spec.specs.Refusals.{Loads}
 use Rattle.spec.proofs.Bytes.BookPasses.{book-loads, question-reads}
 use Rattle.spec.proofs.Bytes.Within.{entries-some}
+use Rattle.spec.proofs.Lists.Zeros.{zeros-take}
 use Rattle.codes.specs.Code.{termCode, codesOf}
+use Rattle.codes.proofs.Padded.{codes-length}
 use Rattle.rule_codes.specs.Laid.{QuestionLaid}
 use Rattle.rule_codes.proofs.Stores.{front-length, front-again}
-use Rattle.codes.proofs.Padded.{codes-length}
 use Rattle.summary_rows.specs.RowTask.{alone, onto}
 use Rattle.row_list.specs.Tasks.{TargetCodes}
 use Rattle.row_list.specs.Listing.{Sought}
 use Rattle.row_list.specs.Placings.{TargetIs}
 use Rattle.row_list.specs.Turns.{OntoQuestion}
-use Rattle.spec.proofs.Lists.Zeros.{zeros-take}
 
 module _ {book : List ℕ} {area : ℕ} (w : Sought book area) where
   pub loads-it : Loads book

@@ -6,17 +6,17 @@ use native.Mathlib.Omega.{arith}
 use lib.ListN.{length, take, replicate, length-append, length-map}
 use lib.Seq.{length-take-le}
 use Rattle.spec.specs.Words.{Rule}
+use Rattle.spec.proofs.Lists.Zeros.{zeros-take}
 use Rattle.codes.specs.Code.{slotCode, codesOf, widthsOf}
+use Rattle.codes.proofs.Padded.{codes-length, widths-length}
 use Rattle.rule_codes.specs.Promises.{HeadCount}
 use Rattle.rule_codes.proofs.Stores.{front-length, front-again}
-use Rattle.codes.proofs.Padded.{codes-length, widths-length}
 use Rattle.task.specs.Task.{Task, posed}
 use Rattle.summary_rows.specs.RowTask.{alone, placed, TaskOf}
 use Rattle.summary_rows.specs.RowsAfter.{RowsNeeds, Promised}
 use Rattle.summary_rows.specs.declared.Tally.{Tally}
 use Rattle.row_list.specs.Tasks.{SummaryIs, SourceCodes}
 use Rattle.row_list.specs.Placings.{SummaryTask, SomePlacing, PlacedRows}
-use Rattle.spec.proofs.Lists.Zeros.{zeros-take}
 
 module _ {relations bytes target own : List ℕ} {found area : ℕ} (w : SomePlacing relations bytes target own found area)
     {before source old widths : List ℕ} {n : ℕ} (s : SourceCodes relations bytes before source old widths n) (wide : length before ≡ 144) (many : length old ≡ 16) where

@@ -9,16 +9,16 @@ use lib.Seq.{sets}
 use Rattle.spec.specs.Words.{_∈_, Term, var, con, Rule, DistinctVariables}
 use Rattle.spec.specs.Summaries.{place}
 use Rattle.spec.specs.Numbers.{numberAt}
+use Rattle.spec.specs.Given.{atFront}
 use Rattle.spec.proofs.Bytes.Standing.{numberOf, TermAt}
 use Rattle.spec.proofs.Lists.Places.{place-some, place-in}
 use Rattle.spec.proofs.Bytes.RulePlaces.{head-terms}
+use Rattle.spec.proofs.Lists.At.{mapped}
 use Rattle.codes.specs.Code.{slotCode}
-use Rattle.spec.specs.Given.{atFront}
 use Rattle.rule_codes.specs.Laid.{Laid}
 use Rattle.rule_codes.specs.Promises.{HeadCount}
 use Rattle.rule_codes.proofs.Stores.{stores-more, stores-end, front-more}
 use Rattle.row_list.specs.Tasks.{SummaryIs, SomeSummary, HeadSlots}
-use Rattle.spec.proofs.Lists.At.{mapped}
 
 pub some-laid : {relations bytes : List ℕ} → SomeSummary relations bytes → Laid bytes
 some-laid {relations} w = record { arities = relations; most = 8; rule = w .rule; layout = w .is .layout }

@@ -6,12 +6,12 @@ use native.Mathlib.Omega.{arith}
 use lib.ListN.{length, take, drop, replicate, length-append, length-map, length-replicate}
 use lib.Seq.{length-take-le}
 use Rattle.spec.specs.Words.{Term, Rule}
-use Rattle.codes.specs.Code.{slotCode, codesOf, widthsOf}
 use Rattle.spec.specs.Given.{atFront}
+use Rattle.codes.specs.Code.{slotCode, codesOf, widthsOf}
+use Rattle.codes.proofs.Padded.{codes-length, codes-append, widths-length}
 use Rattle.rule_codes.specs.Laid.{LaidFor}
 use Rattle.rule_codes.specs.Promises.{HeadCount, BodyCodes, BodyWidths}
 use Rattle.rule_codes.proofs.Stores.{front-length, front-again}
-use Rattle.codes.proofs.Padded.{codes-length, codes-append, widths-length}
 use Rattle.summary_rows.specs.RowTask.{alone, placed}
 use Rattle.row_list.specs.Alone.{aloneCodes}
 use Rattle.row_list.specs.Tasks.{SummaryIs, SomeSummary, HeadSlots, SourceCodes}

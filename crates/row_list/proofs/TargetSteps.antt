@@ -8,14 +8,14 @@ use lib.Seq.{length-take-le}
 use Rattle.spec.specs.Words.{Term, Rule}
 use Rattle.spec.specs.RuleLayout.{Layout}
 use Rattle.spec.specs.BookLayout.{questionMost}
-use Rattle.codes.specs.Code.{termCode, codesOf}
 use Rattle.spec.specs.Given.{atFront}
+use Rattle.codes.specs.Code.{termCode, codesOf}
+use Rattle.codes.proofs.Padded.{codes-length, codes-append}
 use Rattle.rule_codes.specs.InOrder.{InOrder}
 use Rattle.rule_codes.specs.BodyTerms.{CodeOf, BodyTerms}
 use Rattle.rule_codes.specs.Laid.{LaidFor, QuestionLaid}
 use Rattle.rule_codes.specs.Promises.{BodyCodes}
 use Rattle.rule_codes.proofs.Stores.{front-length, front-again}
-use Rattle.codes.proofs.Padded.{codes-length, codes-append}
 use Rattle.summary_rows.specs.RowTask.{alone}
 use Rattle.row_list.specs.Alone.{aloneCodes}
 use Rattle.row_list.specs.Tasks.{TermsOf, TargetCodes}

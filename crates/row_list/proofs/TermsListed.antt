@@ -6,15 +6,15 @@ use native.Mathlib.Omega.{arith}
 use lib.ListN.{length, length-append}
 use Rattle.spec.specs.Words.{_∈_, Term, var, con, Subgoal, Rule}
 use Rattle.spec.specs.Order.{TermBefore}
+use Rattle.spec.specs.RuleLayout.{TermWithin, RuleWithin}
+use Rattle.spec.specs.BookLayout.{Arities, questionMost}
 use Rattle.spec.proofs.Decided.Orders.{termOrder}
 use Rattle.spec.proofs.Lists.Gathered.{gather, gather-in, gather-out}
 use Rattle.spec.proofs.Lists.Rising.{rising-map}
 use Rattle.spec.proofs.Lists.Enumerate.{Enumerates}
 use Rattle.spec.proofs.Lists.Sorted.{sorted, sorted-in, sorted-out, sorted-rising}
-use Rattle.containment.proofs.Normal.{sorted-few}
-use Rattle.spec.specs.RuleLayout.{TermWithin, RuleWithin}
-use Rattle.spec.specs.BookLayout.{Arities, questionMost}
 use Rattle.spec.proofs.Bytes.Sizes.{terms-few}
+use Rattle.containment.proofs.Normal.{sorted-few}
 use Rattle.codes.specs.Code.{termCode}
 use Rattle.rule_codes.specs.InOrder.{InOrder}
 use Rattle.rule_codes.specs.BodyTerms.{CodeOf}

@@ -10,13 +10,13 @@ use Rattle.spec.specs.Summaries.{place, summary}
 use Rattle.spec.specs.Book.{Summary, Book, admittedOf}
 use Rattle.spec.specs.BookLayout.{SoundBook}
 use Rattle.spec.specs.Contents.{partAt}
+use Rattle.spec.specs.Table.{mostRows}
 use Rattle.spec.proofs.Lists.Places.{place-in}
 use Rattle.spec.proofs.Bytes.BookPasses.{book-loads, question-reads, summary-reads}
-use Rattle.summary_rows.specs.RowsAfter.{RowsAfter}
-use Rattle.spec.specs.Table.{mostRows}
-use Rattle.summary_rows.specs.declared.Tally.{Tally}
 use Rattle.admission.specs.Admission.{HasSummary, SaysIn}
 use Rattle.admission.proofs.Standing.{standing}
+use Rattle.summary_rows.specs.RowsAfter.{RowsAfter}
+use Rattle.summary_rows.specs.declared.Tally.{Tally}
 use Rattle.row_list.specs.Tasks.{SummaryIs}
 use Rattle.row_list.specs.Placings.{SummaryTask, SomePlacing, PlacedRows}
 use Rattle.row_list.specs.Turns.{OntoQuestion, TurnSays}

@@ -5,11 +5,11 @@ use Prim.Native.Nat.{ℕ, _*_, _<_, _≤_}
 use lib.ListN.{length, take, drop}
 use Rattle.spec.specs.Words.{Rule}
 use Rattle.spec.specs.Summaries.{Summaries}
-use Rattle.spec.proofs.Decided.Rows.{allRows}
 use Rattle.spec.specs.Book.{Book, admittedOf}
 use Rattle.spec.specs.BookLayout.{SoundBook}
-use Rattle.codes.specs.Code.{termCode, codesOf}
 use Rattle.spec.specs.Table.{mostRows}
+use Rattle.spec.proofs.Decided.Rows.{allRows}
+use Rattle.codes.specs.Code.{termCode, codesOf}
 use Rattle.row_list.specs.declared.RowsListed.{RowsListed}
 use Rattle.row_list.specs.declared.RowsListed.the-variants.{All, Over}
 

@@ -6,10 +6,10 @@ use lib.ListN.{length, replicate}
 use Rattle.spec.specs.Words.{Term, Rule, Safe}
 use Rattle.spec.specs.RuleLayout.{RuleWithin}
 use Rattle.spec.specs.BookLayout.{Arities, questionMost}
+use Rattle.spec.specs.Table.{mostRows}
 use Rattle.codes.specs.Code.{termCode, codesOf}
 use Rattle.summary_rows.specs.RowTask.{onto}
 use Rattle.summary_rows.specs.RowsAfter.{RowsAfter}
-use Rattle.spec.specs.Table.{mostRows}
 use Rattle.summary_rows.specs.declared.Tally.{Tally}
 use Rattle.row_list.specs.Tasks.{SummaryIs, TermsOf}
 

@@ -5,11 +5,11 @@ use Prim.Native.Nat.{ℕ, _≤_}
 use lib.ListN.{length, replicate}
 use Rattle.spec.specs.Words.{Term, Rule, DistinctVariables}
 use Rattle.spec.specs.Order.{TermBefore}
-use Rattle.spec.proofs.Lists.Enumerate.{Enumerates}
 use Rattle.spec.specs.RuleLayout.{Layout}
 use Rattle.spec.specs.BookLayout.{questionMost, summaryMost}
-use Rattle.codes.specs.Code.{termCode, slotCode, codesOf, widthsOf}
 use Rattle.spec.specs.Given.{atFront}
+use Rattle.spec.proofs.Lists.Enumerate.{Enumerates}
+use Rattle.codes.specs.Code.{termCode, slotCode, codesOf, widthsOf}
 use Rattle.search_meaning.specs.Coded.{TermIn}
 use Rattle.summary_rows.specs.RowTask.{placed, onto}
 

@@ -8,11 +8,11 @@ use Rattle.spec.specs.Words.{Rule}
 use Rattle.spec.specs.Summaries.{summary}
 use Rattle.spec.specs.Book.{Book, admittedOf}
 use Rattle.spec.specs.BookLayout.{SoundBook}
-use Rattle.summary_rows.specs.RowsAfter.{RowsAfter}
 use Rattle.spec.specs.Table.{mostRows}
+use Rattle.admission.specs.Admission.{HasSummary}
+use Rattle.summary_rows.specs.RowsAfter.{RowsAfter}
 use Rattle.summary_rows.specs.Tables.{TableTo}
 use Rattle.summary_rows.specs.declared.Tally.{Tally}
-use Rattle.admission.specs.Admission.{HasSummary}
 use Rattle.row_list.specs.Placings.{TargetIs}
 
 -- The target is that of the book's question.

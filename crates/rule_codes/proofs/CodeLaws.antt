@@ -1,15 +1,15 @@
--- The builders' codes are those of crate coding: a table's and a base's.
+-- The builders' codes are those of crate codes: a table's and a base's.
 use mathlib.Core.Path.{_≡_, refl, ap, ap₂, _∙_}
 use mathlib.Core.List.{List, [], _∷_, _++_, map, map-map, List·Memᴰ·head, List·Memᴰ·tail}
 use Prim.Native.Nat.{ℕ}
 use native.Mathlib.Omega.{arith}
 use lib.ListN.{length-map}
 use Rattle.spec.specs.Words.{_∈_, Term, var, con, Subgoal, each}
-use Rattle.spec.proofs.Lists.Gathered.{map-same}
 use Rattle.spec.specs.RuleLayout.{TermWithin}
+use Rattle.spec.specs.Given.{atFront}
+use Rattle.spec.proofs.Lists.Gathered.{map-same}
 use Rattle.codes.specs.Code.{variableTag, termCode, slotCode, padded, codesOf, widthsOf}
 use Rattle.rule_codes.specs.Codes.{tabled, based}
-use Rattle.spec.specs.Given.{atFront}
 use Rattle.rule_codes.specs.Promises.{BodyCodes}
 use Rattle.rule_codes.specs.Tables.{BaseTable}
 

@@ -10,12 +10,13 @@ use lib.ListN.{length, getD, take, set, replicate, length-set}
 use lib.Seq.{take-all}
 use borrow.Author.Tests.{eqb-true, eqb-false}
 use Rattle.spec.specs.Words.{_∈_, Term, var, con, Rule}
-use Rattle.spec.proofs.Lists.Gathered.{map-same}
 use Rattle.spec.specs.Numbers.{numberAt}
 use Rattle.spec.specs.RuleLayout.{Layout}
+use Rattle.spec.proofs.Lists.Gathered.{map-same}
 use Rattle.spec.proofs.Bytes.Standing.{TermAt}
 use Rattle.spec.proofs.Lists.Places.{place-some}
 use Rattle.spec.proofs.Bytes.RulePlaces.{head-terms}
+use Rattle.spec.proofs.Lists.Zeros.{zero-at}
 use Rattle.codes.specs.Code.{variableTag, termCode, padded}
 use Rattle.rule_codes.specs.Codes.{tabled}
 use Rattle.rule_codes.specs.Heads.{HeadCodes, HeadBindings}
@@ -27,7 +28,6 @@ use Rattle.rule_codes.proofs.CodeLaws.{tabled-based, based-term}
 use Rattle.rule_codes.proofs.NineSteps.{TermsStored, eight-end}
 use Rattle.rule_codes.proofs.SoFar.{take-place}
 use Rattle.rule_codes.proofs.Stores.{after-store}
-use Rattle.spec.proofs.Lists.Zeros.{zero-at}
 
 module _ {bytes : List ℕ} {n : ℕ} (count : HeadCount bytes n) where
   head-many : {arities : List ℕ} {most : ℕ} {r : Rule ℕ} → Layout arities most bytes r → Many bytes 2 n (r .head)

@@ -9,6 +9,7 @@ use Rattle.spec.specs.Words.{Rule}
 use Rattle.spec.specs.RuleLayout.{Layout}
 use Rattle.spec.proofs.Bytes.Sizes.{terms-few}
 use Rattle.codes.specs.Code.{variableTag, termCode, codesOf}
+use Rattle.codes.proofs.Padded.{codes-length}
 use Rattle.rule_codes.specs.Codes.{tabled}
 use Rattle.rule_codes.specs.InOrder.{TermAmong, InOrder}
 use Rattle.rule_codes.specs.BodyTerms.{CodeOf, BodyTerms}
@@ -18,7 +19,6 @@ use Rattle.rule_codes.specs.Tables.{BaseTable}
 use Rattle.rule_codes.proofs.CodeLaws.{tabled-based, based-term, recoded}
 use Rattle.rule_codes.proofs.Stores.{front-length}
 use Rattle.rule_codes.proofs.TermCodes.{SmallSubgoals, terms-among}
-use Rattle.codes.proofs.Padded.{codes-length}
 
 module _ {arities bytes : List ℕ} (q : QuestionLaid arities bytes) where
   -- "question 1 to 12"

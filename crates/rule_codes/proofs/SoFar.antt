@@ -10,14 +10,14 @@ use lib.Seq.{sets, take-all, length-take-le}
 use Rattle.spec.specs.Words.{Term, Subgoal, Rule}
 use Rattle.spec.specs.Summaries.{place}
 use Rattle.spec.specs.RuleLayout.{Layout}
+use Rattle.spec.specs.Given.{atFront}
 use Rattle.spec.proofs.Bytes.RulePlaces.{goal-count}
 use Rattle.spec.proofs.Lists.Places.{place-less, nothing}
 use Rattle.codes.specs.Code.{subgoalCodes, codesOf, widthsOf}
+use Rattle.codes.proofs.Padded.{codes-more, widths-more, nine, codes-length}
 use Rattle.rule_codes.specs.Codes.{tabled}
-use Rattle.spec.specs.Given.{atFront}
 use Rattle.rule_codes.specs.Laid.{LaidFor}
 use Rattle.rule_codes.proofs.Stores.{front-more, front-length}
-use Rattle.codes.proofs.Padded.{codes-more, widths-more, nine, codes-length}
 
 -- What is written of a subgoal, always as many, and of a list of them.
 pub record Writing : Type 0 where

@@ -18,13 +18,13 @@ use Rattle.spec.specs.RuleLayout.{TermWithin}
 use Rattle.spec.proofs.Bytes.Standing.{TermAt}
 use Rattle.spec.proofs.Lists.Places.{nothing, place-some, place-in, place-drop}
 use Rattle.spec.proofs.Bytes.RulePlaces.{head-terms}
+use Rattle.spec.proofs.Lists.At.{mapped}
 use Rattle.codes.specs.Code.{variableTag, constantTag, termCode}
 use Rattle.rule_codes.specs.Codes.{based, counted}
 use Rattle.rule_codes.specs.Laid.{UseOf, SomeUse}
 use Rattle.rule_codes.specs.Promises.{HeadCount}
 use Rattle.rule_codes.specs.Tables.{BaseTable, TermCode, OldCode, UseTable}
 use Rattle.rule_codes.proofs.Stores.{after-store}
-use Rattle.spec.proofs.Lists.At.{mapped}
 
 -- counting from a base on
 module _ (base : ℕ) where

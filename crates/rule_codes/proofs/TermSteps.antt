@@ -8,10 +8,10 @@ use Rattle.spec.specs.Words.{Term, var, con}
 use Rattle.spec.specs.Numbers.{numberAt}
 use Rattle.spec.proofs.Bytes.Standing.{TermAt}
 use Rattle.spec.proofs.Lists.Places.{place-some}
+use Rattle.spec.proofs.Lists.At.{mapped}
 use Rattle.codes.specs.Code.{constantTag}
 use Rattle.rule_codes.specs.Codes.{tabled}
 use Rattle.rule_codes.specs.Steps.{SomeTerm, SomeTerms, Many, CodeAt, PaddedAt}
-use Rattle.spec.proofs.Lists.At.{mapped}
 
 module _ (bytes : List ℕ) (at n : ℕ) (e : n ≡ numberAt 4 bytes (at + 1)) where
   pub constant : (table : List ℕ) → getD bytes at 0 ≡ 1 → CodeAt bytes at table (constantTag + n)

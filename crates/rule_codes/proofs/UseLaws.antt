@@ -1,4 +1,4 @@
--- The codes of one use of a summary: by its table, and by each code of crate coding.
+-- The codes of one use of a summary: by its table, and by each code of crate codes.
 use mathlib.Core.Path.{_≡_, refl, sym, ap, ap₂, _∙_}
 use mathlib.Core.Bool.{Bool, true, false, cond}
 use mathlib.Core.Option.{some}
@@ -8,17 +8,17 @@ use native.Mathlib.Omega.{arith}
 use lib.Dec.{eqb}
 use Rattle.spec.specs.Words.{_∈_, Term, var, con, Subgoal, Rule, becomes}
 use Rattle.spec.specs.Summaries.{Summaries, summary, orEmpty, definition, Own, fresh, replaced, kept, inUse, inPlace}
-use Rattle.spec.proofs.Lists.Gathered.{map-same}
 use Rattle.spec.specs.RuleLayout.{TermWithin}
+use Rattle.spec.specs.Given.{atFront}
+use Rattle.spec.proofs.Lists.Gathered.{map-same}
+use Rattle.spec.proofs.Replaced.{replaced-all}
 use Rattle.codes.specs.Code.{variableTag, freshTag, ownCode, ownSlot, keptSlot, codesOf, widthsOf}
 use Rattle.rule_codes.specs.Codes.{tabled, based, counted, basedUse}
-use Rattle.spec.specs.Given.{atFront}
 use Rattle.rule_codes.specs.Laid.{UseOf}
 use Rattle.rule_codes.specs.Promises.{BodyCodes}
 use Rattle.rule_codes.specs.Uses.{UseCodes}
 use Rattle.rule_codes.specs.Tables.{UseTable}
 use Rattle.rule_codes.proofs.CodeLaws.{codes-same, codes-each, widths-each}
-use Rattle.spec.proofs.Replaced.{replaced-all}
 
 -- what stands for a variable, coded
 replaced-coded : {A : Type 0} (code : A → ℕ) (ss : List (Term ℕ)) (ts : List A) (other : ℕ → A) (x : ℕ) → code (replaced ss ts other x) ≡ replaced ss (map code ts) (λ y. code (other y)) x

@@ -1,4 +1,4 @@
--- The codes of terms by what the variables' codes are, so that one builder serves every code of crate coding; laws tie each to those.
+-- The codes of terms by what the variables' codes are, so that one builder serves every code of crate codes; laws tie each to those.
 use mathlib.Core.List.{List}
 use Prim.Native.Nat.{ℕ, _+_, _<_}
 use lib.ListN.{getD}

@@ -5,8 +5,8 @@ use Prim.Native.Nat.{ℕ}
 use lib.ListN.{length}
 use Rattle.spec.specs.Words.{Term, Rule}
 use Rattle.spec.specs.RuleLayout.{Layout}
-use Rattle.codes.specs.Code.{codesOf, widthsOf}
 use Rattle.spec.specs.Given.{atFront}
+use Rattle.codes.specs.Code.{codesOf, widthsOf}
 
 module _ (bytes : List ℕ) where
   pub record HeadCount (n : ℕ) : Type 0 where

@@ -6,8 +6,8 @@ use Prim.Native.Nat.{ℕ}
 use lib.ListN.{length}
 use Rattle.spec.specs.Words.{Term, Subgoal, Rule}
 use Rattle.spec.specs.Summaries.{Summaries, summary, Own, inPlace}
-use Rattle.codes.specs.Code.{codesOf}
 use Rattle.spec.specs.Given.{atFront}
+use Rattle.codes.specs.Code.{codesOf}
 use Rattle.rule_codes.specs.Laid.{UseOf}
 
 -- The codes of a summary's body in use u, in place of a subgoal, at the front of an area.

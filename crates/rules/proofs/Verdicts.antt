@@ -6,12 +6,12 @@ use mathlib.Core.List.{List, []}
 use Prim.Native.Nat.{ℕ}
 use native.Mathlib.Omega.{arith}
 use Rattle.spec.specs.Words.{Rule, Safe, DistinctVariables}
-use Rattle.bits.specs.Sets.{Has, Within}
 use Rattle.spec.specs.Numbers.{Bytes}
 use Rattle.spec.specs.RuleLayout.{Layout}
 use Rattle.spec.proofs.Bytes.RuleReading.{Read, got, bad, readRule}
 use Rattle.spec.proofs.Bytes.RuleReading as reading
 use Rattle.spec.proofs.Bytes.RuleLaws.{layout-read, no-layout, layout-unique}
+use Rattle.bits.specs.Sets.{Has, Within}
 use Rattle.rules.specs.declared.subgoals.Fault.{Fault}
 use Rattle.rules.specs.declared.subgoals.Fault.the-variants.{Count, Relation, Tag, Variable, Early, Over}
 use Rattle.rules.specs.declared.subgoals.Marks.{Marks}

@@ -6,10 +6,10 @@ use native.Mathlib.Omega.{arith}
 use lib.ListN.{length, getD, length-map, List·getD-append, List·getD-map}
 use lib.Seq.{getD-append-add}
 use Rattle.spec.specs.Words.{Subgoal}
+use Rattle.spec.proofs.Lists.At.{map-get}
 pub use Rattle.choice_theory.specs.Numbered.{nothing}
 use Rattle.codes.specs.Code.{subgoalCodes, codesOf, widthsOf}
 use Rattle.codes.proofs.Padded.{padded-get, nine}
-use Rattle.spec.proofs.Lists.At.{map-get}
 
 module _ {A : Type 0} (f : A → ℕ) where
   pub codes-get : (gs : List (Subgoal A)) (i r : ℕ) → i < length gs → r < 9 → getD (codesOf f gs) (9 * i + r) 0 ≡ getD (subgoalCodes f (getD gs i nothing)) r 0

@@ -7,8 +7,8 @@ use mathlib.Core.List.{List, [], _∷_, map}
 use Prim.Native.Nat.{ℕ, zero, suc, _+_, _-_, _<_, _≤_}
 use native.Mathlib.Omega.{arith}
 use native.Mathlib.Nat.{add-zero}
-use borrow.Author.Tests.{lt-ltb, le-ltb}
 use lib.ListN.{length, getD}
+use borrow.Author.Tests.{lt-ltb, le-ltb}
 use Rattle.spec.specs.Words.{_∈_, Term, var, con, Subgoal, Rule, becomes, each, Mapping}
 use Rattle.spec.specs.Summaries.{place, Summaries, Own, old, fresh, kept, inPlace, uses, joined, expansion, rewriting}
 use Rattle.spec.specs.Order.{ListBefore}
@@ -17,11 +17,13 @@ use Rattle.spec.proofs.Lists.Gathered.{same-map}
 use Rattle.spec.proofs.Lists.Counted.{place-in, place-within, from-one}
 use Rattle.spec.proofs.Decided.Orders.{bytesOrder}
 use Rattle.spec.proofs.Decided.WitnessExists.{back-maps, maps-back}
+use Rattle.spec.proofs.Lists.At.{getD-in}
 use Rattle.containment.proofs.Carry.{terms-after, terms-same}
 use Rattle.containment.proofs.Suit.{terms-agree}
-use Rattle.spec.proofs.Lists.At.{getD-in}
 use Rattle.choice_theory.specs.Numbered.{nothing, rowAt}
 use Rattle.choice_theory.specs.Targets.{place-uses}
+use Rattle.outcomes.specs.Bounds.{Bounds, RowsWithin}
+use Rattle.outcomes.proofs.Bounds.{fits-room, fits-alike}
 use Rattle.codes.specs.Code.{termCode, ownSlot}
 use Rattle.task.specs.Task.{Task, Sized}
 use Rattle.task.specs.Mapped.{useOf, Mapped, FirstMapped}
@@ -29,7 +31,6 @@ use Rattle.search_meaning.specs.Coded.{TermIn, Ready, OverTerms, Sent}
 use Rattle.search_meaning.specs.Codings.{ownNaming, ownNamed, homeOf, termCoding, readTerm, OwnWithin}
 use Rattle.search_meaning.specs.Uses.{useAt, endsOf}
 use Rattle.search_meaning.specs.HeadBound.{HeadBound}
-use Rattle.outcomes.specs.Bounds.{Bounds, RowsWithin}
 use Rattle.search_meaning.specs.Tasks.{backTask}
 use Rattle.search_meaning.proofs.Read.{read-term, term-solid}
 use Rattle.search_meaning.proofs.OverTerms.{sent-is}
@@ -37,7 +38,6 @@ use Rattle.search_meaning.proofs.Sizes.{sized}
 use Rattle.search_meaning.proofs.Carried.{carried-is, carried-first, carried-none}
 use Rattle.search_meaning.proofs.Pairs.{place-paired}
 use Rattle.search_meaning.proofs.UseOf.{AllSome, ends-long, use-of-is}
-use Rattle.outcomes.proofs.Bounds.{fits-room, fits-alike}
 use Rattle.search_meaning.proofs.InUse.{OfUse, use-terms, use-some, uses-fit, uses-few}
 use Rattle.search_meaning.proofs.Into.{uses-within}
 

@@ -10,23 +10,23 @@ use Rattle.spec.specs.Words.{_∈_, Term, var, con, Subgoal, Rule, AllFit, beco
 use Rattle.spec.specs.Summaries.{Summaries, Own, old, fresh, kept, inPlace}
 use Rattle.spec.proofs.Lists.Gathered.{map-same}
 use Rattle.spec.proofs.Lists.Counted.{place-in}
+use Rattle.spec.proofs.Lists.At.{getD-in, in-getD, getD-place, choices, map-get}
 use Rattle.containment.proofs.Places.{in-use}
 use Rattle.containment.proofs.Expand.{extended}
 use Rattle.choice_theory.specs.Numbered.{nothing, rowAt}
-use Rattle.spec.proofs.Lists.At.{getD-in, in-getD, getD-place, choices, map-get}
 use Rattle.choice_theory.specs.Dominates.{Dominates}
+use Rattle.outcomes.specs.Bounds.{Bounds, RowsWithin}
+use Rattle.outcomes.proofs.Bounds.{fits-room, fits-alike}
 use Rattle.codes.specs.Code.{ownCode, keptSlot}
 use Rattle.task.specs.Task.{Task, Sized}
 use Rattle.task.specs.Mapped.{Mapped}
 use Rattle.search_meaning.specs.Coded.{Bound, TermIn, Ready, Valued}
 use Rattle.search_meaning.specs.Codings.{keptNaming, ownCoding, readOwn}
-use Rattle.outcomes.specs.Bounds.{Bounds, RowsWithin}
 use Rattle.search_meaning.specs.Tasks.{useTask}
 use Rattle.search_meaning.proofs.AtPlaces.{Indexed, places-indexed, indexed-places}
 use Rattle.search_meaning.proofs.General.{mapped-is}
 use Rattle.search_meaning.proofs.Read.{read-own, own-solid}
 use Rattle.search_meaning.proofs.Sizes.{sized}
-use Rattle.outcomes.proofs.Bounds.{fits-room, fits-alike}
 use Rattle.search_meaning.proofs.InUse.{OfUse, of-use-within, use-terms, use-few, uses-fit}
 
 -- the slot of a use's own variable stands for it, and no other code is a slot

@@ -5,20 +5,20 @@ use mathlib.Core.List.{List, map, Memᴰ·map, Memᴰ·of-map}
 use Prim.Native.Nat.{ℕ, _<_, _≤_}
 use native.Mathlib.Omega.{arith}
 use lib.ListN.{length, length-map}
-use Rattle.bits.specs.Sets.{Has}
 use Rattle.spec.specs.Words.{Term, con, Subgoal, Rule, becomes, each}
 use Rattle.spec.specs.Summaries.{Summaries, Own, uses, joined}
+use Rattle.spec.proofs.Lists.At.{map-get}
 use Rattle.choice_theory.specs.Numbered.{nothing, keptHead}
 use Rattle.choice_theory.specs.MapsAt.{MapsAt}
 use Rattle.choice_theory.specs.Can.{CanBy}
 use Rattle.choice_theory.specs.Placed.{PlacedInRows, rowOf, owners, AnyPair}
 use Rattle.choice_theory.specs.Placing.{placed-is}
+use Rattle.outcomes.specs.Bounds.{Bounds, RowsWithin}
+use Rattle.bits.specs.Sets.{Has}
 use Rattle.task.specs.Task.{Task, Sized}
 use Rattle.task.specs.Mapped.{InRows, Mapped, Feasible}
 use Rattle.search_meaning.specs.HeadBound.{HeadBound}
-use Rattle.outcomes.specs.Bounds.{Bounds, RowsWithin}
 use Rattle.search_meaning.specs.Tasks.{thereTask}
-use Rattle.spec.proofs.Lists.At.{map-get}
 use Rattle.search_meaning.proofs.AtPlaces.{Indexed, places-indexed, indexed-places}
 use Rattle.search_meaning.proofs.Owners.{owners-long, owners-below}
 use Rattle.search_meaning.proofs.Into.{Into, into-is, there-sized}

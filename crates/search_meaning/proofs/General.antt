@@ -8,13 +8,13 @@ use native.Mathlib.Decide.{decLt}
 use lib.ListN.{length, getD, length-map}
 use lib.Seq.{ext-getD}
 use Rattle.spec.specs.Words.{_∈_, Subgoal, each}
+use Rattle.spec.proofs.Lists.At.{map-get, getD-place, getD-in}
 use Rattle.task.specs.Task.{Task, valueOf, Agrees, sourceTerm, targetTerm, widthOf}
 use Rattle.task.specs.Mapped.{useOf, Lands, Mapped}
+use Rattle.task.proofs.Slots.{value-slot, value-code}
 use Rattle.search_meaning.specs.Coded.{Naming, Coding, Bound, task, Ready, Valued}
 use Rattle.search_meaning.proofs.AtCodes.{nothing, relation-at, term-at, width-at}
-use Rattle.spec.proofs.Lists.At.{map-get, getD-place, getD-in}
 use Rattle.search_meaning.proofs.AtPlaces.{Indexed, places-indexed, indexed-places}
-use Rattle.task.proofs.Slots.{value-slot, value-code}
 
 -- values that agree on the slots give a source code the same
 value-same : (v w : ℕ → ℕ) (x : ℕ) → (x < 64 → v x ≡ w x) → valueOf v x ≡ valueOf w x

@@ -7,12 +7,12 @@ use native.Mathlib.Omega.{arith}
 use lib.ListN.{length, length-map, length-append}
 use Rattle.spec.specs.Words.{_∈_, Term, var, con, Subgoal, Rule, AllFit, becomes, each}
 use Rattle.spec.specs.Summaries.{Summaries, summary, orEmpty, definition, Own, old, fresh, kept, inUse, inPlace, uses, joined, rewriting}
-use Rattle.containment.proofs.Fit.{FitEvery, fit-expansion}
 use Rattle.spec.specs.RuleLayout.{TermWithin, RuleWithin}
 use Rattle.spec.specs.BookLayout.{summaryMost}
-use Rattle.search_meaning.specs.Codings.{OwnWithin}
-use Rattle.outcomes.specs.Bounds.{Bounds, RowsWithin}
 use Rattle.spec.proofs.Replaced.{replaced-all}
+use Rattle.containment.proofs.Fit.{FitEvery, fit-expansion}
+use Rattle.outcomes.specs.Bounds.{Bounds, RowsWithin}
+use Rattle.search_meaning.specs.Codings.{OwnWithin}
 
 -- A term of the use numbered u, within bounds.
 abbrev pub OfUse : ℕ → Term (Own ℕ) → Type 0

@@ -12,18 +12,18 @@ use Rattle.spec.proofs.Lists.Counted.{place-in}
 use Rattle.containment.proofs.Places.{used}
 use Rattle.choice_theory.specs.Numbered.{keptHead}
 use Rattle.choice_theory.specs.Placing.{keeps-head}
+use Rattle.outcomes.specs.Bounds.{Bounds, RowsWithin}
+use Rattle.outcomes.proofs.Bounds.{fits-room, fits-alike}
 use Rattle.codes.specs.Code.{ownCode}
 use Rattle.task.specs.Task.{Task, Sized}
 use Rattle.task.specs.Mapped.{Mapped}
 use Rattle.search_meaning.specs.Coded.{TermIn, Sent}
 use Rattle.search_meaning.specs.Codings.{slotNaming, ownCoding, readOwn, OwnWithin, RuleSource}
 use Rattle.search_meaning.specs.HeadBound.{HeadBound}
-use Rattle.outcomes.specs.Bounds.{Bounds, RowsWithin}
 use Rattle.search_meaning.specs.Tasks.{thereTask}
 use Rattle.search_meaning.proofs.Read.{read-own, own-solid}
 use Rattle.search_meaning.proofs.Slots.{slots-sent}
 use Rattle.search_meaning.proofs.Sizes.{sized}
-use Rattle.outcomes.proofs.Bounds.{fits-room, fits-alike}
 use Rattle.search_meaning.proofs.InUse.{of-use-within, use-terms, uses-fit, uses-few}
 
 -- Values that send the question's subgoals to those of the uses at the places, head to head.

@@ -6,12 +6,12 @@ use native.Mathlib.Omega.{arith}
 use native.Mathlib.Decide.{decLt}
 use lib.ListN.{length, getD, length-map, List·getD-eq-default}
 use Rattle.spec.specs.Words.{_∈_, Subgoal}
+use Rattle.spec.proofs.Lists.At.{getD-in}
 use Rattle.codes.specs.Code.{padded}
+use Rattle.codes.proofs.Padded.{codes-length}
 use Rattle.task.specs.Task.{Task, Sized, widthOf, targetTerm}
 use Rattle.search_meaning.specs.Coded.{Naming, Coding, task, SmallTask}
-use Rattle.codes.proofs.Padded.{codes-length}
 use Rattle.search_meaning.proofs.AtCodes.{nothing, codes-get, width-at}
-use Rattle.spec.proofs.Lists.At.{getD-in}
 
 padded-solid : (n : ℕ) (l : List ℕ) (a : ℕ) → a < n → ((x : ℕ) → x ∈ l → x ≡ 0 → ⊥) → getD (padded n l) a 0 ≡ 0 → ⊥
 padded-solid zero l a h solid e = omega arith

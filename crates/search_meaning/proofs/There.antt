@@ -9,11 +9,11 @@ use Rattle.spec.specs.Summaries.{Summaries, Own, uses, joined, expansion, rewri
 use Rattle.spec.specs.Answer.{AtPlaces, There, FirstThere}
 use Rattle.spec.proofs.Decided.Orders.{bytesOrder}
 use Rattle.spec.proofs.Decided.WitnessExists.{there-maps, maps-there}
+use Rattle.outcomes.specs.Bounds.{Bounds, RowsWithin}
 use Rattle.task.specs.Task.{Task}
 use Rattle.task.specs.Mapped.{Mapped, FirstMapped}
 use Rattle.search_meaning.specs.Uses.{pairsOf}
 use Rattle.search_meaning.specs.HeadBound.{HeadBound}
-use Rattle.outcomes.specs.Bounds.{Bounds, RowsWithin}
 use Rattle.search_meaning.specs.Tasks.{thereTask}
 use Rattle.search_meaning.proofs.Carried.{carried-is, carried-first, carried-none}
 use Rattle.search_meaning.proofs.Pairs.{pairs-before, places-pairs, pairs-places}

@@ -1,4 +1,4 @@
--- The codes of crate coding as namings of a source's terms and codings of a target's terms.
+-- The codes of crate codes as namings of a source's terms and codings of a target's terms.
 use mathlib.Core.Path.{_≡_}
 use mathlib.Core.Bool.{cond}
 use mathlib.Core.List.{List}
@@ -7,8 +7,8 @@ use lib.Dec.{ltb}
 use lib.ListN.{length, getD}
 use Rattle.spec.specs.Words.{_∈_, Term, var, con, Subgoal}
 use Rattle.spec.specs.Summaries.{Own, old, fresh}
-use Rattle.codes.specs.Code.{variableTag, constantTag, freshTag, termCode, ownCode, slotCode, ownSlot, keptSlot}
 use Rattle.spec.specs.RuleLayout.{TermWithin}
+use Rattle.codes.specs.Code.{variableTag, constantTag, freshTag, termCode, ownCode, slotCode, ownSlot, keptSlot}
 use Rattle.search_meaning.specs.Coded.{Naming, Coding, Bound, TermIn}
 
 -- a rule as a source

@@ -1,1 +1,1 @@
-// No code: what the search promises on codes, tied to the definitions of crate codes.
+// No code: what the search promises on codes, tied to the definitions of crate spec.

@@ -2,13 +2,13 @@
 use lib.Dec.{T}
 use Rattle.spec.specs.Words.{_∈_}
 use Rattle.spec.specs.Refresh.{admitted}
-use Rattle.spec.proofs.Lists.Tests.{every, every-sound}
-use Rattle.spec.proofs.Examples.Values as values
 use Rattle.spec.specs.Numbers.{numberAt}
 use Rattle.spec.specs.BookLayout.{bookBytes, contentsEnd, entries}
 use Rattle.spec.specs.Contents.{count}
 use Rattle.spec.specs.Refusals.{longest}
 use Rattle.spec.specs.Table.{mostRows}
+use Rattle.spec.proofs.Lists.Tests.{every, every-sound}
+use Rattle.spec.proofs.Examples.Values as values
 use Rattle.sheets.specs.Sheet.{Sheet, ComesTrue}
 use Rattle.sheets.specs.Books.{bookA, bookASecond, path, star, pair, apart, eight, nine, noSummaries}
 use Rattle.sheets.specs.SourceBooks.{example41, carLocPart, withoutV4, withoutV2V4}

@@ -10,12 +10,12 @@ use lib.Dec.{T, leb, leb→le, ltb, ltb→lt, eqb, eqb→eq}
 use Rattle.spec.specs.Words.{var}
 use Rattle.spec.specs.Refresh.{lead}
 use Rattle.spec.specs.Book.{Book}
-use Rattle.spec.proofs.Lists.Tests.{and-parts, or-cases}
-use Rattle.spec.proofs.Examples.Written.{x0, x1, rule, on, at1}
 use Rattle.spec.specs.BookLayout.{mostSummaries}
 use Rattle.spec.specs.Contents.{count}
 use Rattle.spec.specs.Refusals.{ofBook, ofEntry, longest, Fault2, two, three}
 use Rattle.spec.specs.Table.{Fault1, RewriterRefusal, read}
+use Rattle.spec.proofs.Lists.Tests.{and-parts, or-cases}
+use Rattle.spec.proofs.Examples.Written.{x0, x1, rule, on, at1}
 use Rattle.sheets.specs.Sheet.{Sheet, accepts, refuses, leads, ComesTrue}
 use Rattle.sheets.proofs.LeadTest.{sameLead, lead-sound}
 use Rattle.sheets.proofs.ValueTest.{many, many-sound, accepted, accepted-sound, refused, refused-sound}

@@ -9,18 +9,18 @@ use lib.Dec.{T, leb, leb→le, ltb, ltb→lt}
 use Rattle.spec.specs.Words.{_∈_, Rule}
 use Rattle.spec.specs.Book.{Book, admittedOf}
 use Rattle.spec.specs.Result.{Answered}
-use Rattle.spec.proofs.Decided.Rows.{allRows}
-use Rattle.spec.proofs.Lists.Tests.{and-parts, any, any-sound}
-use Rattle.spec.proofs.Decided.Equal.{eqNumber, eqList}
-use Rattle.spec.proofs.Examples.Values.{ValueSheet, sheets, Meant, meant}
 use Rattle.spec.specs.BookLayout.{SoundBook}
 use Rattle.spec.specs.Refusals.{ofBook}
 use Rattle.spec.specs.Table.{mostRows, Fault1, Fault9, RewriterRefusal, nine, ten}
 use Rattle.spec.specs.Given.{answerBytes, witnessBytes}
+use Rattle.spec.proofs.Decided.Rows.{allRows}
+use Rattle.spec.proofs.Lists.Tests.{and-parts, any, any-sound}
+use Rattle.spec.proofs.Decided.Equal.{eqNumber, eqList}
+use Rattle.spec.proofs.Examples.Values.{ValueSheet, sheets, Meant, meant}
+use Rattle.spec.proofs.Bytes.SoundTest.{soundBook, book-sound}
 use Rattle.outcomes.proofs.Grants.{value-safe}
 use Rattle.outcomes.proofs.Total.{fault-9}
 use Rattle.sheets.specs.Sheet.{GivenAs}
-use Rattle.spec.proofs.Bytes.SoundTest.{soundBook, book-sound}
 
 abbrev rowCount : Book → ℕ
 rowCount b = length (allRows (admittedOf b) (b .question))

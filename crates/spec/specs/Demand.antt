@@ -1,12 +1,12 @@
 -- Demand 3, of a book, and of what the rewriter gave.
 use mathlib.Core.Path.{_≡_}
 use mathlib.Core.Option.{some}
-use Prim.Native.Nat.{ℕ, _<_, _≤_}
-use Rattle.spec.specs.Words.{_∈_, Term, Subgoal, Rule, Facts, Listed, AllFit, Yields, itself, Safe, DistinctVariables}
-use Rattle.spec.specs.Summaries.{Summaries, summary, HoldJust, rewriting}
 use mathlib.Core.Logic.{_↔_}
 use mathlib.Core.List.{List}
+use Prim.Native.Nat.{ℕ, _<_, _≤_}
 use lib.ListN.{length, take}
+use Rattle.spec.specs.Words.{_∈_, Term, Subgoal, Rule, Facts, Listed, AllFit, Yields, itself, Safe, DistinctVariables}
+use Rattle.spec.specs.Summaries.{Summaries, summary, HoldJust, rewriting}
 use Rattle.spec.specs.Answer.{Rewrites, Answer}
 use Rattle.spec.specs.Book.{Book, admittedOf, Summary}
 use Rattle.spec.specs.RuleLayout.{ruleBytes}

@@ -31,7 +31,7 @@ pub record Admitted (need stamp : ℕ) (rule : Rule ℕ) : Type 0 where
   pub by : ℕ
   pub leads : lead need stamp ≡ ahead (pos by)
 
--- The same as a test; it agrees (Admits.antt).
+-- The same as a test; it agrees (proofs/Refresh/Admits).
 abbrev pub leadsBy : Lead → Bool
 leadsBy (ahead (pos n)) = true
 leadsBy (ahead (negsuc n)) = false

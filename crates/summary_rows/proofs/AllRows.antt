@@ -10,8 +10,8 @@ use lib.Dec.{ltb, ltb→lt, lt→ltb}
 use lib.ListN.{length}
 use Rattle.spec.specs.Words.{_∈_, Term, con, Subgoal, Rule, Listed, Yields}
 use Rattle.spec.specs.Summaries.{Summaries, summary, SummaryRow}
-use Rattle.spec.proofs.Decided.Sound.{AllSafe}
 use Rattle.spec.specs.Order.{RowBefore}
+use Rattle.spec.proofs.Decided.Sound.{AllSafe}
 use Rattle.spec.proofs.Decided.Orders.{rowOrder}
 use Rattle.spec.proofs.Lists.Gathered.{passing, passing-in, passing-out}
 use Rattle.spec.proofs.Lists.Rising.{rising-append, rising-passing}

@@ -6,11 +6,11 @@ use Prim.Native.Nat.{ℕ, _+_, _*_, _-_, _<_, _≤_}
 use native.Mathlib.Omega.{arith}
 use lib.ListN.{length, getD, take, drop, length-append, length-drop, List·getD-append}
 use lib.Seq.{length-take-le, getD-take}
-use Rattle.spec.proofs.Lists.At.{choices}
 use Rattle.spec.specs.Order.{ListBefore, First}
+use Rattle.spec.proofs.Lists.At.{choices}
 use Rattle.task.specs.Task.{Task, goals, targets}
-use Rattle.placing.specs.Answer.{PlacesFrom}
 use Rattle.task.specs.Completion.{Completion}
+use Rattle.placing.specs.Answer.{PlacesFrom}
 use Rattle.placing.specs.declared.Places.{Places}
 use Rattle.summary_rows.specs.RowPlaces.{RowFront, OnTargets, Begins}
 use Rattle.summary_rows.specs.FixedPlaces.{fixing, InReach}

@@ -7,9 +7,10 @@ use native.Mathlib.Omega.{arith}
 use lib.ListN.{length, getD, replicate, length-map, length-replicate, List·getD-append}
 use lib.Seq.{getD-append-add}
 use Rattle.spec.specs.Words.{_∈_, Term, var, con, Subgoal, Rule, DistinctVariables}
-use Rattle.spec.proofs.Lists.At.{in-getD, getD-in, map-get}
-use Rattle.codes.specs.Code.{termCode, slotCode, codesOf}
 use Rattle.spec.specs.RuleLayout.{TermWithin}
+use Rattle.spec.proofs.Lists.At.{in-getD, getD-in, map-get}
+use Rattle.spec.proofs.Lists.Zeros.{zero-at}
+use Rattle.codes.specs.Code.{termCode, slotCode, codesOf}
 use Rattle.task.specs.Task.{Task, goals, targets, sourceTerm, widthOf, valueOf, Agrees, Completes}
 use Rattle.search_meaning.specs.Codings.{slotNaming, termCoding}
 use Rattle.search_meaning.proofs.AtCodes.{nothing, relation-at, term-at, width-at}
@@ -19,7 +20,6 @@ use Rattle.summary_rows.specs.RowPlaces.{headTerm, HeadTask}
 use Rattle.summary_rows.proofs.OneUse.{StandsAt, completes-stand}
 use Rattle.summary_rows.proofs.Fixing.{term-only}
 use Rattle.summary_rows.proofs.TaskLaws.{fit-other, parts, room, alike, placed-long, onto-long, small}
-use Rattle.spec.proofs.Lists.Zeros.{zero-at}
 
 pub variable : (ts : List (Term ℕ)) → DistinctVariables ts → (t : Term ℕ) → t ∈ ts → (x : ℕ) × (t ≡ var x)
 variable [] d t m = absurd (List·Memᴰ·not-nil m)

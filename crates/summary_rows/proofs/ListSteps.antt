@@ -7,13 +7,13 @@ use native.Mathlib.Omega.{arith}
 use lib.ListN.{length, take}
 use lib.Seq.{paste, length-paste}
 use Rattle.spec.specs.Words.{Term, Rule}
+use Rattle.spec.specs.Table.{mostRows}
 use Rattle.task.specs.Task.{Task}
 use Rattle.placing.specs.declared.Places.{Places}
 use Rattle.summary_rows.specs.RowTask.{TaskOf}
 use Rattle.summary_rows.specs.RowPlaces.{HeadTask, RowPlaces, AtRow, StartPlaces, NextPlaces}
 use Rattle.summary_rows.specs.RowCodes.{rowCodes}
 use Rattle.summary_rows.specs.RowsAfter.{RowsNeeds, Promised}
-use Rattle.spec.specs.Table.{mostRows}
 use Rattle.summary_rows.proofs.HeadLaws.{row-ready}
 use Rattle.summary_rows.proofs.RowCodes.{row-long}
 use Rattle.summary_rows.proofs.Listing.{RowsSoFar, listing-start, listing-more, listing-end, listing-over}

@@ -9,6 +9,7 @@ use lib.Seq.{take-all, take-at, paste}
 use borrow.Author.Tests.{lt-ltb, le-ltb}
 use Rattle.spec.specs.Words.{Term, Subgoal, Rule}
 use Rattle.spec.specs.Order.{RowBefore}
+use Rattle.spec.specs.Table.{mostRows}
 use Rattle.spec.proofs.Lists.Enumerate.{Enumerates}
 use Rattle.spec.proofs.Decided.Orders.{rowOrder}
 use Rattle.task.specs.Task.{Task}
@@ -17,7 +18,6 @@ use Rattle.summary_rows.specs.RowTask.{TaskOf}
 use Rattle.summary_rows.specs.RowPlaces.{StartPlaces, NextPlaces}
 use Rattle.summary_rows.specs.RowCodes.{rowCodes}
 use Rattle.summary_rows.specs.RowsAfter.{RowBy, RowsAfter}
-use Rattle.spec.specs.Table.{mostRows}
 use Rattle.summary_rows.proofs.AtTerms.{Stand}
 use Rattle.summary_rows.proofs.RowOrder.{rowOf, start-row, start-empty, next-row, next-empty}
 use Rattle.summary_rows.proofs.RowCodes.{row-codes}

@@ -8,11 +8,11 @@ use lib.ListN.{length, getD, take, length-map}
 use lib.Seq.{length-take-le, getD-take}
 use Rattle.spec.specs.Words.{Term, Rule}
 use Rattle.spec.specs.Summaries.{place}
-use Rattle.codes.specs.Code.{padded, termCode, subgoalCodes}
-use Rattle.task.specs.Task.{Task}
-use Rattle.codes.proofs.Padded.{padded-length, padded-get, padded-past}
-use Rattle.search_meaning.proofs.AtCodes.{nothing}
 use Rattle.spec.proofs.Lists.At.{map-get, place-getD}
+use Rattle.codes.specs.Code.{padded, termCode, subgoalCodes}
+use Rattle.codes.proofs.Padded.{padded-length, padded-get, padded-past}
+use Rattle.task.specs.Task.{Task}
+use Rattle.search_meaning.proofs.AtCodes.{nothing}
 use Rattle.summary_rows.specs.RowTask.{alone, onto, TaskOf}
 use Rattle.summary_rows.specs.RowCodes.{rowCodes}
 use Rattle.summary_rows.proofs.AtTerms.{Stand, place-front}

@@ -10,14 +10,14 @@ use lib.Seq.{length-take-le, take-all, take-at, take-append-le, take-append-add,
 use borrow.Author.Tests.{ltb-true, ltb-false}
 use Rattle.spec.specs.Words.{Term, Subgoal, Rule}
 use Rattle.spec.specs.Summaries.{Summaries, summary}
-use Rattle.spec.proofs.Decided.Sound.{AllSafe}
 use Rattle.spec.specs.Order.{RowBefore}
+use Rattle.spec.specs.Table.{mostRows}
+use Rattle.spec.proofs.Decided.Sound.{AllSafe}
 use Rattle.spec.proofs.Lists.Enumerate.{Enumerates}
 use Rattle.spec.proofs.Decided.Rows.{allRows}
 use Rattle.codes.specs.Code.{termCode, codesOf}
 use Rattle.codes.proofs.Padded.{codes-length, codes-append}
 use Rattle.summary_rows.specs.RowsAfter.{RowsAfter}
-use Rattle.spec.specs.Table.{mostRows}
 use Rattle.summary_rows.specs.Tables.{RowTo, TableTo}
 use Rattle.summary_rows.specs.declared.Tally.{Tally}
 use Rattle.summary_rows.proofs.AllRows.{rows-none, rows-skip, rows-more, rows-all, rows-front}

@@ -8,15 +8,15 @@ use lib.ListN.{length, getD, replicate, length-append, length-map, length-replic
 use Rattle.spec.specs.Words.{_∈_, Term, con, Subgoal, Rule, Fits}
 use Rattle.spec.specs.RuleLayout.{TermWithin}
 use Rattle.spec.specs.BookLayout.{Arities}
+use Rattle.spec.proofs.Lists.At.{getD-in}
+use Rattle.spec.proofs.Lists.Zeros.{zero-at}
 use Rattle.task.specs.Task.{Task}
 use Rattle.task.specs.Mapped.{Mapped}
 use Rattle.search_meaning.specs.Coded.{TermIn, SmallTask, Sent}
 use Rattle.search_meaning.specs.Codings.{termCoding, RuleSource}
-use Rattle.spec.proofs.Lists.At.{getD-in}
 use Rattle.search_meaning.proofs.Read.{read-term, term-solid}
 use Rattle.search_meaning.proofs.Slots.{slots-sent}
 use Rattle.summary_rows.specs.RowTask.{headRelation, alone, placed, onto, TaskOf}
-use Rattle.spec.proofs.Lists.Zeros.{zero-at}
 
 -- What a relation's arity says of a subgoal.
 module _ {A : Type 0} (arities : List ℕ) (all : Arities arities) (g : Subgoal A) (fit : Fits arities g) where

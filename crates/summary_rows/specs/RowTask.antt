@@ -5,9 +5,9 @@ use Prim.Native.Nat.{ℕ, _≤_}
 use lib.ListN.{length, replicate}
 use Rattle.spec.specs.Words.{Term, Subgoal, Rule, Safe, DistinctVariables}
 use Rattle.spec.specs.Order.{TermBefore}
-use Rattle.spec.proofs.Lists.Enumerate.{Enumerates}
 use Rattle.spec.specs.RuleLayout.{RuleWithin}
 use Rattle.spec.specs.BookLayout.{Arities, questionMost, summaryMost}
+use Rattle.spec.proofs.Lists.Enumerate.{Enumerates}
 use Rattle.task.specs.Task.{Task}
 use Rattle.search_meaning.specs.Coded.{TermIn, task}
 use Rattle.search_meaning.specs.Codings.{slotNaming, termCoding}

@@ -6,12 +6,12 @@ use lib.Dec.{ltb}
 use lib.ListN.{length, take, drop}
 use Rattle.spec.specs.Words.{Term, con, Subgoal, Rule, Listed, Yields}
 use Rattle.spec.specs.Order.{RowBefore}
+use Rattle.spec.specs.Table.{mostRows}
 use Rattle.spec.proofs.Lists.Enumerate.{Enumerates}
 use Rattle.codes.specs.Code.{termCode, codesOf}
 use Rattle.task.specs.Task.{Task}
 use Rattle.summary_rows.specs.RowTask.{TaskOf}
 use Rattle.summary_rows.specs.declared.Tally.{Tally}
-use Rattle.spec.specs.Table.{mostRows}
 
 -- A row of the summary of number n, whose rule is v: "the head of an admitted summary after sending its variables to terms of the question so that
 -- each of its subgoals becomes a subgoal of the question, constants kept."

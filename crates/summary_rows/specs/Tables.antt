@@ -6,9 +6,9 @@ use lib.ListN.{length, drop}
 use Rattle.spec.specs.Words.{Term, Subgoal, Rule}
 use Rattle.spec.specs.Summaries.{Summaries, SummaryRow}
 use Rattle.spec.specs.Order.{RowBefore}
+use Rattle.spec.specs.Table.{mostRows}
 use Rattle.spec.proofs.Lists.Enumerate.{Enumerates}
 use Rattle.codes.specs.Code.{termCode, codesOf}
-use Rattle.spec.specs.Table.{mostRows}
 
 -- a row of one of the summaries 1 to n; a summary that is left out has none
 pub record RowTo (s : Summaries) (q : Rule ℕ) (n : ℕ) (g : Subgoal (Term ℕ)) : Type 0 where

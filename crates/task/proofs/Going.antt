@@ -10,10 +10,10 @@ use lib.Seq.{slice, slice-empty, slice-cons}
 use Rattle.task.specs.Task.{Task, goals, targets, Agrees, Linked, Completes, done}
 use Rattle.task.specs.Mapped.{Mapped}
 use Rattle.task.specs.Completion.{Completion}
-use Rattle.task.proofs.Onward.{step, stepped}
-use Rattle.task.proofs.Chain.{completion-mapped, mapped-completion}
 use Rattle.task.specs.Follows.{Follows}
 use Rattle.task.specs.Leads.{CarriedOn, Leads}
+use Rattle.task.proofs.Onward.{step, stepped}
+use Rattle.task.proofs.Chain.{completion-mapped, mapped-completion}
 
 pub record PlacesFollowed (p : Task) (b ks : List ℕ) (i : ℕ) (g : List ℕ) : Type 0 where
   pub far : i ≤ goals p

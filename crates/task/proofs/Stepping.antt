@@ -7,10 +7,10 @@ use native.Mathlib.Omega.{arith}
 use lib.ListN.{length, set}
 use Rattle.task.specs.Task.{Task, targets, targetRelation, sourceRelation, sourceTerm, targetTerm, widthOf, lastOf, Agrees, Extends}
 use Rattle.task.specs.Terms.{stood, noting, Opened}
+use Rattle.task.specs.Leads.{Leads}
 use Rattle.task.proofs.Slots.{stood-value}
 use Rattle.task.proofs.Guess.{Guess, guess-known, guess-start, guess-same, guess-new, guess-full}
 use Rattle.task.proofs.Onward.{after, over}
-use Rattle.task.specs.Leads.{Leads}
 
 -- the bindings after the first a terms; which slots are new need not be told, since nothing is tried again
 pub record Guessed (p : Task) (b : List ℕ) (i k a : ℕ) (g : List ℕ) : Type 0 where

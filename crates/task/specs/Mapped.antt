@@ -1,15 +1,15 @@
 -- What a task asks for: the places of a mapping, the first of them, and some that lie within few rows.
 use mathlib.Core.Logic.{_⊎_}
 use mathlib.Core.List.{List}
-use Prim.Native.Nat.{ℕ, _≤_, zero, suc, _<_}
-use lib.ListN.{length, getD}
-use Rattle.bits.specs.Sets.{Has}
-use Rattle.spec.specs.Words.{_∈_}
-use Rattle.task.specs.Task.{Task, rowOf, goals, targets, lastOf, Agrees, Extends}
 use mathlib.Core.Bool.{cond}
 use mathlib.Core.Path.{_≡_}
+use Prim.Native.Nat.{ℕ, _≤_, zero, suc, _<_}
+use lib.ListN.{length, getD}
 use lib.Dec.{eqb}
+use Rattle.spec.specs.Words.{_∈_}
 use Rattle.spec.specs.Order.{ListBefore, First}
+use Rattle.bits.specs.Sets.{Has}
+use Rattle.task.specs.Task.{Task, rowOf, goals, targets, lastOf, Agrees, Extends}
 
 -- The targets l lie in rows that are in use (a set) or among some that are taken: at most `left`, each of which may be taken (a set).
 pub record InRows (p : Task) (used may left : ℕ) (l : List ℕ) : Type 0 where

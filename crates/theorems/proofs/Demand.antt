@@ -8,19 +8,19 @@ use Rattle.spec.specs.Words.{Rule}
 use Rattle.spec.specs.Book.{Book, admittedOf}
 use Rattle.spec.specs.Result.{Right}
 use Rattle.spec.specs.Demand.{OverAdmitted, DiffersSomewhere, Gave}
-use Rattle.containment.proofs.Alone.{left-out-no-say}
 use Rattle.spec.specs.LeftOut.{SameButLeftOut}
 use Rattle.spec.specs.BookLayout.{SoundBook}
-use Rattle.spec.proofs.Bytes.BookUnique.{book-unique}
-use Rattle.spec.proofs.Bytes.Refused.{sound-unrefused}
 use Rattle.spec.specs.Table.{RewriterRefusal, one, read, nine, ten, Fault9, Fault10}
 use Rattle.spec.specs.Given.{answerBytes, Given, atFront}
-use Rattle.outcomes.proofs.Demand.{given-same, given-fewer, given-few, refused-all, left-out-nine, left-out-ten, moved-back}
 use Rattle.spec.specs.Rewriting.{Rewriting}
 use Rattle.spec.specs.Refusals.{ofBook}
 use Rattle.spec.specs.declared.Reason.{Reason}
 use Rattle.spec.specs.declared.Outcome.{Outcome}
 use Rattle.spec.specs.declared.Outcome.the-variants.{Done, Refused}
+use Rattle.spec.proofs.Bytes.BookUnique.{book-unique}
+use Rattle.spec.proofs.Bytes.Refused.{sound-unrefused}
+use Rattle.containment.proofs.Alone.{left-out-no-say}
+use Rattle.outcomes.proofs.Demand.{given-same, given-fewer, given-few, refused-all, left-out-nine, left-out-ten, moved-back}
 use Rattle.rewriter.proofs.Unique.{rewriting-once}
 
 pub gave : {book a a₁ w w₁ : List ℕ} {n m : ℕ} → Rewriting book a a₁ w w₁ (Done n m) → Gave book a₁ n

@@ -7,9 +7,9 @@ use lib.ListN.{take}
 use lib.Seq.{take-at}
 use Rattle.spec.specs.Given.{answerBytes, witnessBytes}
 use Rattle.spec.specs.Truth.{Truth, Checks}
-use Rattle.outcomes.proofs.Own.{given-true}
 use Rattle.spec.specs.Rewriting.{Rewriting}
 use Rattle.spec.specs.declared.Outcome.the-variants.{Done}
+use Rattle.outcomes.proofs.Own.{given-true}
 
 pub own-passes : {book a a₁ w w₁ : List ℕ} {n m : ℕ} → Rewriting book a a₁ w w₁ (Done n m) → {answer : Bool} → Checks book (take n a₁) (take m w₁) answer → answer ≡ true
 own-passes {book} {a₁ = a₁} {w₁ = w₁} {n} {m} x c =

@@ -9,10 +9,10 @@ use Rattle.spec.specs.Book.{Book, admittedOf}
 use Rattle.spec.specs.RuleLayout.{ruleBytes}
 use Rattle.spec.specs.BookLayout.{SoundBook}
 use Rattle.spec.specs.Truth.{RewritingRule, Checks}
+use Rattle.spec.specs.Demand.{YesSameRows}
 use Rattle.outcomes.proofs.Same.{true-same}
 use Rattle.outcomes.proofs.Witnessed.{witness-for}
 use Rattle.outcomes.proofs.AsRule.{passes-only}
-use Rattle.spec.specs.Demand.{YesSameRows}
 
 pub yes-same : {book rewriting witness : List ℕ} → Checks book rewriting witness true → YesSameRows book rewriting
 yes-same c = let t = c .exactly .0 refl in record { value = t .value; sound = t .sound; rule = t .rule; written = t .written; same = true-same t }

@@ -7,15 +7,15 @@ use lib.ListN.{length, getD, take, replicate, length-map}
 use lib.Seq.{sets}
 use Rattle.spec.specs.Words.{Term, Subgoal}
 use Rattle.spec.specs.Book.{Book}
+use Rattle.book_codes.specs.Question.{QuestionTarget, QuestionBound}
+use Rattle.book_codes.specs.UsesLent.{SourceUsesOf}
+use Rattle.book_codes.proofs.BackTask as task
 use Rattle.placing.specs.FirstPlaces.{FirstPlaces}
 use Rattle.placing.specs.declared.Places.{Places}
 use Rattle.witness.specs.WitnessBytes.{placeBytes, PlacesFit}
-use Rattle.book_codes.specs.Question.{QuestionTarget, QuestionBound}
 use Rattle.witness.specs.ThereTold.{Serves}
 use Rattle.witness.specs.BackTold.{BackOf}
-use Rattle.book_codes.specs.UsesLent.{SourceUsesOf}
 use Rattle.witness.proofs.Found.{FoundAt, found-at}
-use Rattle.book_codes.proofs.BackTask as task
 
 -- the places are the bytes that are written for them
 places-written : (ks l : List ℕ) (i : ℕ) → ((j : ℕ) → j < length l → getD ks (i + j) 0 ≡ getD l j 0) → placeBytes ks i (length l) ≡ map suc l

@@ -4,10 +4,10 @@ use Prim.Native.Nat.{ℕ, _*_}
 use lib.ListN.{take}
 use Rattle.codes.specs.Code.{ownSlot}
 use Rattle.book_codes.specs.AllUses.{GoalsCounted, AllCodes, AllWidths, AllEnds}
+use Rattle.book_codes.proofs.Sourced.{from-of, from}
 use Rattle.witness.specs.ThereTold.{Tells}
 use Rattle.witness.specs.BackTold.{BackTold}
 use Rattle.witness.specs.BackSteps.{FromServing, FromTold}
-use Rattle.book_codes.proofs.Sourced.{from-of, from}
 
 module _ {book rows : List ℕ} {k n : ℕ} (counted : GoalsCounted book rows k n)
     {w₀ w d₀ d e₀ e : List ℕ} (codes : AllCodes book rows k ownSlot w₀ w) (wide : AllWidths book rows k d₀ d) (ends : AllEnds book rows k e₀ e) where

@@ -5,8 +5,8 @@ use mathlib.Core.List.{List, [], _++_}
 use Prim.Native.Nat.{ℕ, _-_, _<_}
 use lib.ListN.{length, getD, replicate, List·getD-append}
 use Rattle.task.specs.Task.{Task, goals}
-use Rattle.placing.specs.FirstPlaces.{FirstPlaces}
 use Rattle.task.specs.Mapped.{Mapped, FirstMapped}
+use Rattle.placing.specs.FirstPlaces.{FirstPlaces}
 use Rattle.placing.specs.declared.Places.{Places}
 
 pub record FoundAt (t : Task) (b : List ℕ) (r : Places) : Type 0 where

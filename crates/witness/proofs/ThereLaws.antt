@@ -11,20 +11,20 @@ use lib.Seq.{sets}
 use Rattle.spec.specs.Words.{Term, Subgoal}
 use Rattle.spec.specs.Summaries.{Own, uses, joined}
 use Rattle.spec.specs.Book.{Book, admittedOf}
+use Rattle.outcomes.proofs.Bounds.{book-bounds}
+use Rattle.book_codes.specs.Question.{QuestionSource, QuestionBound}
+use Rattle.book_codes.specs.UsesLent.{TargetUsesOf}
+use Rattle.book_codes.proofs.Read.{insides-long, insides-at}
+use Rattle.book_codes.proofs.Lent.{source-widths}
+use Rattle.book_codes.proofs.ThereTask as task
 use Rattle.placing.specs.FirstPlaces.{FirstPlaces}
 use Rattle.placing.specs.declared.Places.{Places}
 use Rattle.search_meaning.specs.Uses.{useAt, withinAt, pairsOf}
-use Rattle.outcomes.proofs.Bounds.{book-bounds}
 use Rattle.search_meaning.proofs.Owners.{owners-at}
 use Rattle.search_meaning.proofs.InUse.{uses-few}
 use Rattle.witness.specs.WitnessBytes.{pairBytes, PairsFit}
-use Rattle.book_codes.proofs.Read.{insides-long, insides-at}
-use Rattle.book_codes.specs.Question.{QuestionSource, QuestionBound}
-use Rattle.book_codes.proofs.Lent.{source-widths}
 use Rattle.witness.specs.ThereTold.{Serves, ThereOf}
-use Rattle.book_codes.specs.UsesLent.{TargetUsesOf}
 use Rattle.witness.proofs.Found.{FoundAt, found-at}
-use Rattle.book_codes.proofs.ThereTask as task
 
 -- the pairs of places are the bytes that are written for them
 pairs-written : {A : Type 0} (ls : List (List A)) (ks own inner : List ℕ) (l : List ℕ) (i : ℕ)

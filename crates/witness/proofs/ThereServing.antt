@@ -4,9 +4,9 @@ use Prim.Native.Nat.{ℕ, _*_}
 use lib.ListN.{take}
 use Rattle.codes.specs.Code.{ownCode}
 use Rattle.book_codes.specs.AllUses.{GoalsCounted, AllCodes, AllOwners, AllInsides}
+use Rattle.book_codes.proofs.Expanded.{onto-of, onto}
 use Rattle.witness.specs.ThereTold.{Tells, ThereTold}
 use Rattle.witness.specs.ThereSteps.{OntoServing, OntoTold}
-use Rattle.book_codes.proofs.Expanded.{onto-of, onto}
 
 module _ {book rows : List ℕ} {k n : ℕ} (counted : GoalsCounted book rows k n)
     {o₀ o w₀ w i₀ i : List ℕ} (codes : AllCodes book rows k ownCode w₀ w) (owns : AllOwners book rows k o₀ o) (inners : AllInsides book rows k i₀ i) where

@@ -6,8 +6,8 @@ use native.Mathlib.Omega.{arith}
 use native.Mathlib.Numerals.{add-one}
 use lib.ListN.{length, getD, set, length-append}
 use lib.Seq.{sets}
-use Rattle.witness.specs.WitnessBytes.{pairBytes, placeBytes}
 use Rattle.spec.proofs.Lists.Stores.{sets-next}
+use Rattle.witness.specs.WitnessBytes.{pairBytes, placeBytes}
 
 module _ (ks own inner : List ℕ) where
   pub pairs-long : (i n : ℕ) → length (pairBytes ks own inner i n) ≡ 2 * n

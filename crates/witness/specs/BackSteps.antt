@@ -3,9 +3,9 @@ use mathlib.Core.List.{List}
 use Prim.Native.Nat.{ℕ}
 use Rattle.spec.specs.Words.{Term, Subgoal}
 use Rattle.spec.specs.Book.{Book}
+use Rattle.book_codes.specs.UsesLent.{SourceUsesOf, SourceUses}
 use Rattle.witness.specs.ThereTold.{Serves}
 use Rattle.witness.specs.BackTold.{BackOf}
-use Rattle.book_codes.specs.UsesLent.{SourceUsesOf, SourceUses}
 
 module _ (book source widths lasts : List ℕ) where
   pub record FromServing : Type 0 where

@@ -8,8 +8,8 @@ use Rattle.spec.specs.Words.{Term, Subgoal}
 use Rattle.spec.specs.Summaries.{rewriting}
 use Rattle.spec.specs.Answer.{FirstBack}
 use Rattle.spec.specs.Book.{Book, admittedOf}
-use Rattle.witness.specs.ThereTold.{Serves}
 use Rattle.book_codes.specs.FewRows.{FewRowsOf}
+use Rattle.witness.specs.ThereTold.{Serves}
 
 -- The second part, from `at` on.
 pub record BackOf (b : Book) (l : List (Subgoal (Term ℕ))) (at : ℕ) (before after : List ℕ) (n : ℕ) : Type 0 where

@@ -3,8 +3,8 @@ use mathlib.Core.List.{List}
 use Prim.Native.Nat.{ℕ}
 use Rattle.spec.specs.Words.{Term, Subgoal}
 use Rattle.spec.specs.Book.{Book}
-use Rattle.witness.specs.ThereTold.{Serves, ThereOf}
 use Rattle.book_codes.specs.UsesLent.{TargetUsesOf, TargetUses}
+use Rattle.witness.specs.ThereTold.{Serves, ThereOf}
 
 module _ (book target own inner : List ℕ) where
   pub record OntoServing : Type 0 where

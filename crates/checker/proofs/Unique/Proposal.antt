@@ -5,10 +5,10 @@ use Prim.Native.Nat.{ℕ, zero, suc}
 use native.Mathlib.Omega.{arith}
 use lib.ListN.{length}
 use Rattle.spec.specs.Words.{Rule}
-use Rattle.codes.specs.Code.{termCode, codesOf}
 use Rattle.spec.specs.Given.{atFront}
-use Rattle.book_codes.specs.Question.{SomeSound}
 use Rattle.outcomes.proofs.AsRule.{rule-once}
+use Rattle.codes.specs.Code.{termCode, codesOf}
+use Rattle.book_codes.specs.Question.{SomeSound}
 use Rattle.checker.specs.declared.proposal.Proposal.{Proposal}
 use Rattle.checker.specs.Proposed.{empty, IsProposed, Proposed}
 

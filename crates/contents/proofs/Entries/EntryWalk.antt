@@ -7,8 +7,8 @@ use native.Mathlib.Omega.{arith}
 use lib.ListN.{length}
 use borrow.Author.Count.{below-more}
 use Rattle.spec.specs.BookLayout.{entries, contentsEnd}
-use Rattle.spec.proofs.Bytes.Within.{entries-counted}
 use Rattle.spec.specs.Contents.{count, entriesIn, offsetAt, lengthAt, beginAt, NoGaps}
+use Rattle.spec.proofs.Bytes.Within.{entries-counted}
 
 -- Each entry below i begins where it has to.
 pub record Followed (book : List ℕ) (i : ℕ) : Type 0 where

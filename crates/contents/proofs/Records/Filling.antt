@@ -8,12 +8,12 @@ use lib.Seq.{sets, sets-eq}
 use Rattle.spec.specs.BookLayout.{entries}
 use Rattle.spec.specs.Contents.{count, entriesIn, offsetAt, lengthAt, stampAt}
 use Rattle.spec.specs.Refusals.{Loads}
-use Rattle.spec.proofs.Bytes.Within.{loads-room, entries-are, entries-counted}
 use Rattle.spec.specs.TableLoading.{recordAt, recordsFrom, JudgeSays, Afterwards, LoadingSays}
-use Rattle.contents.specs.Records.{recordsOf, FewSummaries}
 use Rattle.spec.specs.declared.Entry.{Entry}
 use Rattle.spec.specs.declared.Loaded.{Loaded}
 use Rattle.spec.specs.declared.Loaded.the-variants.{Good, Refused}
+use Rattle.spec.proofs.Bytes.Within.{loads-room, entries-are, entries-counted}
+use Rattle.contents.specs.Records.{recordsOf, FewSummaries}
 
 -- A record is the one of entry i if its numbers are.
 pub record-is : (book : List ℕ) (i o l s : ℕ) → o ≡ offsetAt book i → l ≡ lengthAt book i → s ≡ stampAt book i → _≡_ {A = Entry} (record { offset = o; length = l; stamp = s }) (recordAt book i)

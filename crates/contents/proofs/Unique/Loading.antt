@@ -6,12 +6,12 @@ use Prim.Native.Nat.{ℕ, _<_}
 use native.Mathlib.Decide.{ℕ-discrete}
 use Rattle.spec.specs.Contents.{entriesIn}
 use Rattle.spec.specs.Refusals.{Loads}
-use Rattle.spec.proofs.Bytes.FirstFaults.{loads-unrefused}
-use Rattle.spec.proofs.Bytes.RefusedOnce.{refused-once}
 use Rattle.spec.specs.EntryPart.{Lent, LiesIn, EntryPart}
 use Rattle.spec.specs.Loading.{LoadSays}
 use Rattle.spec.specs.declared.Loaded.{Loaded}
 use Rattle.spec.specs.declared.Loaded.the-variants.{Good, Refused}
+use Rattle.spec.proofs.Bytes.FirstFaults.{loads-unrefused}
+use Rattle.spec.proofs.Bytes.RefusedOnce.{refused-once}
 use Rattle.spec.proofs.Lists.Finite.{positive}
 
 -- `load`

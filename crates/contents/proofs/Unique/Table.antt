@@ -5,13 +5,13 @@ use Prim.Native.Nat.{ℕ, _<_, _≤_}
 use native.Mathlib.Omega.{arith}
 use lib.ListN.{length}
 use Rattle.spec.specs.Refusals.{Loads}
-use Rattle.spec.proofs.Bytes.FirstFaults.{loads-unrefused}
-use Rattle.spec.proofs.Bytes.RefusedOnce.{refused-once}
 use Rattle.spec.specs.TableLoading.{TableRefusal, one, then, JudgeSays, Afterwards, LoadingSays}
 use Rattle.spec.specs.declared.Entry.{Entry}
 use Rattle.spec.specs.declared.Reason.{Reason}
 use Rattle.spec.specs.declared.Loaded.{Loaded}
 use Rattle.spec.specs.declared.Loaded.the-variants.{Good, Refused}
+use Rattle.spec.proofs.Bytes.FirstFaults.{loads-unrefused}
+use Rattle.spec.proofs.Bytes.RefusedOnce.{refused-once}
 
 refusal-unique : (book : List ℕ) (room : ℕ) {r s : Reason} → TableRefusal book room r → TableRefusal book room s → r ≡ s
 refusal-unique book room (one h) (one g) = refl

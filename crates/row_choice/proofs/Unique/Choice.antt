@@ -2,8 +2,8 @@
 use mathlib.Core.Path.{_≡_}
 use mathlib.Core.List.{List}
 use Prim.Native.Nat.{ℕ}
-use Rattle.spec.proofs.Decided.Rows.{allRows-enumerate}
 use Rattle.spec.specs.Book.{admittedOf}
+use Rattle.spec.proofs.Decided.Rows.{allRows-enumerate}
 use Rattle.outcomes.proofs.Bounds.{book-bounds}
 use Rattle.first_shortest.specs.declared.Chosen.{Chosen}
 use Rattle.first_shortest.proofs.Unique.{chosen-by-once}

@@ -2,8 +2,8 @@
 use mathlib.Core.Path.{_≡_}
 use mathlib.Core.List.{List}
 use Prim.Native.Nat.{ℕ}
-use Rattle.bits.proofs.Laws.{same-members}
 use Rattle.book_codes.specs.RowsGiven.{RowsGiven}
+use Rattle.bits.proofs.Laws.{same-members}
 use Rattle.row_choice.specs.Dominators.{DominatorsOf}
 
 pub dominators-once : {book rows : List ℕ} {n : ℕ} (g : RowsGiven book rows n) {r : ℕ} (a b : ℕ) → DominatorsOf book rows n r a → DominatorsOf book rows n r b → a ≡ b

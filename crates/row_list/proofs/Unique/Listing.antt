@@ -6,8 +6,8 @@ use native.Mathlib.Omega.{arith}
 use lib.ListN.{drop}
 use Rattle.spec.specs.Words.{Rule}
 use Rattle.spec.specs.Summaries.{Summaries}
-use Rattle.spec.proofs.Decided.Rows.{allRows}
 use Rattle.spec.specs.Book.{admittedOf}
+use Rattle.spec.proofs.Decided.Rows.{allRows}
 use Rattle.codes.specs.Code.{termCode, codesOf}
 use Rattle.row_list.specs.Listing.{Sought, ListedSays, ListSays}
 use Rattle.row_list.specs.declared.RowsListed.{RowsListed}

@@ -3,9 +3,9 @@ use mathlib.Core.Path.{_≡_, sym, ap, _∙_}
 use mathlib.Core.List.{List}
 use Prim.Native.Nat.{ℕ}
 use lib.ListN.{length}
+use Rattle.spec.specs.Given.{atFront}
 use Rattle.spec.proofs.Decided.Orders.{termOrder}
 use Rattle.codes.specs.Code.{termCode, codesOf}
-use Rattle.spec.specs.Given.{atFront}
 use Rattle.rule_codes.specs.Laid.{QuestionLaid}
 use Rattle.search_meaning.specs.Coded.{TermIn}
 use Rattle.summary_rows.specs.RowTask.{onto}

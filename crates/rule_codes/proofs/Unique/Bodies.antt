@@ -10,10 +10,10 @@ use lib.Seq.{ext-getD}
 use Rattle.spec.specs.Words.{_∈_, Term, var, con, Subgoal}
 use Rattle.spec.specs.Summaries.{Summaries, Own}
 use Rattle.rule_codes.specs.Laid.{Laid, UseFor, QuestionLaid}
-use Rattle.rule_codes.proofs.Unique.Ascending.{in-order-unique}
 use Rattle.rule_codes.specs.BodyTerms.{BodyTerms}
 use Rattle.rule_codes.specs.Heads.{HeadCodes, HeadBindings}
 use Rattle.rule_codes.specs.Uses.{UseCodes}
+use Rattle.rule_codes.proofs.Unique.Ascending.{in-order-unique}
 
 -- whether a variable stands in a head
 shown : (x : ℕ) (head : List (Term ℕ)) → Dec (var x ∈ head)

@@ -7,12 +7,12 @@ use Prim.Native.Nat.{ℕ}
 use native.Mathlib.Omega.{arith}
 use lib.ListN.{length}
 use lib.Dec.{T, not-T, leb, leb→le, le→leb, nleb→lt, eqb, eqb→eq}
-use Rattle.spec.proofs.Lists.Tests.{and-parts, and-both, every, every-sound, every-complete}
-use Rattle.spec.proofs.Decided.Equal.{eqNumber, eq-test}
-use Rattle.spec.proofs.Lists.Counted.{counted, counted-in, counted-out}
 use Rattle.spec.specs.BookLayout.{contentsEnd}
 use Rattle.spec.specs.Contents.{count, entriesIn, offsetAt, stampAt, partAt, beginAt, NoGaps, RightRelations}
 use Rattle.spec.specs.Refusals.{longest, Fault2}
+use Rattle.spec.proofs.Lists.Tests.{and-parts, and-both, every, every-sound, every-complete}
+use Rattle.spec.proofs.Decided.Equal.{eqNumber, eq-test}
+use Rattle.spec.proofs.Lists.Counted.{counted, counted-in, counted-out}
 use Rattle.spec.proofs.Bytes.SoundTest.{relations, relations-sound, relations-complete}
 
 module _ (book : List ℕ) where

@@ -8,14 +8,14 @@ use native.Mathlib.Omega.{arith}
 use native.Mathlib.Decide.{ℕ-discrete}
 use lib.Dec.{T, not-T, leb, leb→le, nleb→lt, ltb, ltb→lt, lt→ltb}
 use Rattle.spec.specs.Words.{Rule}
-use Rattle.spec.proofs.Decided.Equal.{eqNumber}
-use Rattle.spec.proofs.Decided.Safety.{safe, safe-sound, safe-complete}
 use Rattle.spec.specs.Numbers.{Bytes}
-use Rattle.spec.proofs.Bytes.RuleReading.{Read, got, bad, readRule}
 use Rattle.spec.specs.BookLayout.{entries, mostSummaries}
 use Rattle.spec.specs.Contents.{count, entriesIn, partAt}
 use Rattle.spec.specs.declared.Reason.{Reason}
 use Rattle.spec.specs.Refusals.{Loads, mostAt, ofBook, ofEntry, Reads, SoundEntry, Reached, Refusal, two, three, four, five, six, seven, eight, Passes}
+use Rattle.spec.proofs.Decided.Equal.{eqNumber}
+use Rattle.spec.proofs.Decided.Safety.{safe, safe-sound, safe-complete}
+use Rattle.spec.proofs.Bytes.RuleReading.{Read, got, bad, readRule}
 use Rattle.spec.proofs.Bytes.RuleLaws.{layout-read, no-layout}
 use Rattle.spec.proofs.Bytes.BookUnique.{reads-unique}
 use Rattle.spec.proofs.Bytes.Refused.{part-bytes}

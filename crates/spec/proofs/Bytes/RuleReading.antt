@@ -1,5 +1,5 @@
 -- A rule read from the front of its bytes: what is read and what is left, or the first fault.
--- Scaffolding: that a rule is read exactly where the bytes are its layout is proved in proofs/RuleLaws.antt. What a reader gets from here is which fault
+-- Scaffolding: that a rule is read exactly where the bytes are its layout is proved in RuleLaws. What a reader gets from here is which fault
 -- is the first.
 use mathlib.Core.Bool.{cond}
 use mathlib.Core.List.{List, [], _∷_}

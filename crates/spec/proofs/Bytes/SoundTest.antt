@@ -6,11 +6,11 @@ use lib.ListN.{length, getD}
 use lib.Dec.{T, T-not, not-T, leb, leb→le, le→leb, ltb, ltb→lt, eqb, eqb→eq}
 use Rattle.spec.specs.Words.{_∈_, Term, var, con, Subgoal, Rule, DistinctVariables, Fits}
 use Rattle.spec.specs.Book.{Summary, Book}
+use Rattle.spec.specs.RuleLayout.{TermWithin, TermsWithin, RuleWithin}
+use Rattle.spec.specs.BookLayout.{mostSummaries, questionMost, summaryMost, bookBytes, Arities, SoundQuestion, SoundSummary, SoundValue, SoundBook}
 use Rattle.spec.proofs.Lists.Tests.{and-parts, and-both, every, every-sound, every-complete, any, any-sound, any-complete}
 use Rattle.spec.proofs.Decided.Equal.{eqNumber, eqTerm, eqList}
 use Rattle.spec.proofs.Decided.Safety.{safe, safe-sound}
-use Rattle.spec.specs.RuleLayout.{TermWithin, TermsWithin, RuleWithin}
-use Rattle.spec.specs.BookLayout.{mostSummaries, questionMost, summaryMost, bookBytes, Arities, SoundQuestion, SoundSummary, SoundValue, SoundBook}
 
 abbrev termWithin : Term ℕ → Bool
 termWithin (var v) = ltb v 32

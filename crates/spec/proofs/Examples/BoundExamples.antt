@@ -7,12 +7,12 @@ use lib.Dec.{lit<}
 use lib.ListN.{replicate}
 use Rattle.spec.specs.Words.{var, con}
 use Rattle.spec.specs.Book.{Book}
-use Rattle.spec.proofs.Examples.Written.{x0, x1, rule, on, stamped}
 use Rattle.spec.specs.Numbers.{little, value, Bytes, numberAt}
 use Rattle.spec.specs.RuleLayout.{termBytes, ruleBytes, TermWithin, RuleWithin}
 use Rattle.spec.specs.BookLayout.{entries, contentsEnd, bookBytes, SoundValue}
 use Rattle.spec.specs.Contents.{count, entriesIn, offsetAt, lengthAt, stampAt, partAt, beginAt}
 use Rattle.spec.specs.Refusals.{mostAt}
+use Rattle.spec.proofs.Examples.Written.{x0, x1, rule, on, stamped}
 use Rattle.spec.proofs.Examples.ContentsExamples.{plain}
 
 -- "Numbers are little-endian."

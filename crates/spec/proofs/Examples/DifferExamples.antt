@@ -9,11 +9,11 @@ use Rattle.spec.specs.Words.{Subgoal, Rule, Facts, Listed, AllFit, becom
 use Rattle.spec.specs.Summaries.{summary, Yielded, HoldJust}
 use Rattle.spec.specs.Refresh.{admitted}
 use Rattle.spec.specs.Book.{Book, admittedOf}
+use Rattle.spec.specs.Demand.{OverAdmitted, OnlyOne, first, second, DiffersSomewhere}
 use Rattle.spec.proofs.Decided.Equal.{eqNumber}
 use Rattle.spec.proofs.Decided.Decide.{yields-sound, yields-complete}
 use Rattle.spec.proofs.Examples.Written.{x0, x1, rule, on, stamped}
 use Rattle.spec.proofs.Examples.FactExamples.{fact}
-use Rattle.spec.specs.Demand.{OverAdmitted, OnlyOne, first, second, DiffersSomewhere}
 
 -- just one of two: not both, and not neither
 not-both : {P : Type 0} → P → OnlyOne P P → ⊥

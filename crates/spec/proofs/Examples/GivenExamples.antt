@@ -6,15 +6,15 @@ use native.Mathlib.Omega.{arith}
 use Rattle.spec.specs.Refresh.{admitted}
 use Rattle.spec.specs.Book.{Book, admittedOf}
 use Rattle.spec.specs.Result.{Answered}
+use Rattle.spec.specs.BookLayout.{entries, contentsEnd, bookBytes}
+use Rattle.spec.specs.Refusals.{ofBook}
+use Rattle.spec.specs.Table.{mostRows, Fault9, RewriterRefusal, ten}
+use Rattle.spec.specs.Given.{Given, atFront, answerBytes, witnessBytes}
 use Rattle.spec.proofs.Decided.RowCount.{rows-within}
 use Rattle.spec.proofs.Decided.Safety.{allSafe-sound}
 use Rattle.spec.proofs.Decided.Answered.{answered-is, answered-none}
 use Rattle.spec.proofs.Examples.Written.{x0, x1, rule, on, stamped}
-use Rattle.spec.specs.BookLayout.{entries, contentsEnd, bookBytes}
 use Rattle.spec.proofs.Bytes.SoundTest.{book-sound}
-use Rattle.spec.specs.Refusals.{ofBook}
-use Rattle.spec.specs.Table.{mostRows, Fault9, RewriterRefusal, ten}
-use Rattle.spec.specs.Given.{Given, atFront, answerBytes, witnessBytes}
 use Rattle.spec.proofs.Examples.TableExamples.{room, short-answer}
 
 -- "bytes past them stay"

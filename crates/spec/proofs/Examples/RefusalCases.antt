@@ -9,11 +9,11 @@ use lib.ListN.{length, take, drop}
 use lib.Dec.{T, ltb, ltb→lt}
 use Rattle.spec.specs.Words.{_∈_}
 use Rattle.spec.specs.Summaries.{joined}
-use Rattle.spec.proofs.Lists.Tests.{every, every-sound, and-parts}
-use Rattle.spec.proofs.Lists.Gathered.{same-map}
 use Rattle.spec.specs.Numbers.{Bytes}
 use Rattle.spec.specs.declared.Reason.{Reason}
 use Rattle.spec.specs.Refusals.{ofEntry, Refusal}
+use Rattle.spec.proofs.Lists.Tests.{every, every-sound, and-parts}
+use Rattle.spec.proofs.Lists.Gathered.{same-map}
 use Rattle.spec.proofs.Bytes.RefusedOnce.{refused-once, passes-unrefused}
 use Rattle.spec.proofs.Bytes.RefusalTest.{refusal, Says, refusal-says}
 

@@ -9,17 +9,17 @@ use lib.Dec.{lit<}
 use Rattle.spec.specs.Words.{var}
 use Rattle.spec.specs.Refresh.{admitted}
 use Rattle.spec.specs.Book.{Book, admittedOf}
+use Rattle.spec.specs.BookLayout.{entries, contentsEnd, bookBytes, SoundBook}
+use Rattle.spec.specs.Refusals.{ofBook, two}
+use Rattle.spec.specs.Table.{answerRoom, witnessRoom, mostRows, Fault1, Fault9, RewriterRefusal, one, read, nine}
+use Rattle.spec.specs.Given.{Given}
 use Rattle.spec.proofs.Decided.Rows.{allRows, allRows-sound, allRows-ascending}
 use Rattle.spec.proofs.Decided.RowCount.{rows-within}
 use Rattle.spec.proofs.Decided.Safety.{allSafe-sound}
 use Rattle.spec.proofs.Examples.Written.{x0, x1, rule, on, stamped}
-use Rattle.spec.specs.BookLayout.{entries, contentsEnd, bookBytes, SoundBook}
-use Rattle.spec.specs.Refusals.{ofBook, two}
 use Rattle.spec.proofs.Bytes.BookUnique.{book-unique}
 use Rattle.spec.proofs.Bytes.Refused.{sound-unrefused}
 use Rattle.spec.proofs.Bytes.SoundTest.{book-sound}
-use Rattle.spec.specs.Table.{answerRoom, witnessRoom, mostRows, Fault1, Fault9, RewriterRefusal, one, read, nine}
-use Rattle.spec.specs.Given.{Given}
 
 -- "answer area below 534 bytes, or witness area below 120"
 pub room : Fault1 534 120 → ⊥

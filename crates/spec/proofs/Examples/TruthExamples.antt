@@ -9,17 +9,17 @@ use Rattle.spec.specs.Words.{_∈_}
 use Rattle.spec.specs.Summaries.{joined}
 use Rattle.spec.specs.Refresh.{admitted}
 use Rattle.spec.specs.Book.{Book}
-use Rattle.spec.proofs.Lists.Tests.{passes, fails, and-parts, every, every-sound}
-use Rattle.spec.proofs.Lists.Gathered.{same-map}
 use Rattle.spec.specs.Numbers.{numberAt}
 use Rattle.spec.specs.BookLayout.{entries, contentsEnd, bookBytes}
 use Rattle.spec.specs.Contents.{count, entriesIn, offsetAt, lengthAt, stampAt, partAt}
 use Rattle.spec.specs.Refusals.{longest, ofBook, Refusal}
+use Rattle.spec.specs.Truth.{Truth, Checks}
+use Rattle.spec.proofs.Lists.Tests.{passes, fails, and-parts, every, every-sound}
+use Rattle.spec.proofs.Lists.Gathered.{same-map}
 use Rattle.spec.proofs.Bytes.Refused.{sound-unrefused}
 use Rattle.spec.proofs.Bytes.SoundTest.{soundBook, book-sound}
 use Rattle.spec.proofs.Bytes.RefusalTest.{refusal-says}
 use Rattle.spec.proofs.Examples.RefusalCases.{areBytes, bytes-sound}
-use Rattle.spec.specs.Truth.{Truth, Checks}
 use Rattle.spec.proofs.Examples.TruthTest.{isTrue, true-sound, true-complete}
 use Rattle.spec.proofs.Examples.TruthBooks.{star, starBytes, zeros, zerosBytes}
 

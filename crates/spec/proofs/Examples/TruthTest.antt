@@ -12,18 +12,18 @@ use Rattle.spec.specs.Summaries.{summary, Over}
 use Rattle.spec.specs.Answer.{There, Back}
 use Rattle.spec.specs.Refresh.{admitted}
 use Rattle.spec.specs.Book.{Summary, Book, ifTrue, admittedOf}
+use Rattle.spec.specs.Numbers.{Bytes}
+use Rattle.spec.specs.RuleLayout.{Layout, ruleBytes}
+use Rattle.spec.specs.BookLayout.{SoundBook, questionMost}
+use Rattle.spec.specs.Truth.{RewritingRule, Truth}
 use Rattle.spec.proofs.Lists.Tests.{and-parts, and-both, every, every-sound, every-complete}
 use Rattle.spec.proofs.Decided.Equal.{eqNumber, eqTerm, eqList, eq-test}
 use Rattle.spec.proofs.Lists.Gathered.{gather, gather-in, gather-out}
 use Rattle.spec.proofs.Decided.Witness.{theres, theres-enumerate, backs, backs-enumerate}
 use Rattle.spec.proofs.Decided.WitnessTest.{isOne, one-sound, one-complete}
-use Rattle.spec.specs.Numbers.{Bytes}
-use Rattle.spec.specs.RuleLayout.{Layout, ruleBytes}
 use Rattle.spec.proofs.Bytes.RuleReading.{Read, got, bad, readRule}
-use Rattle.spec.specs.BookLayout.{SoundBook, questionMost}
 use Rattle.spec.proofs.Bytes.RuleLaws.{read-layout, layout-read}
 use Rattle.spec.proofs.Bytes.BookUnique.{book-unique}
-use Rattle.spec.specs.Truth.{RewritingRule, Truth}
 use Rattle.spec.proofs.Bytes.HeadLengths.{headLengths}
 
 abbrev widths : List Summary → List ℕ

@@ -5,11 +5,11 @@ use Prim.Native.Nat.{ℕ, _≤_}
 use native.Mathlib.Omega.{arith}
 use lib.ListN.{replicate}
 use Rattle.spec.specs.Words.{con, Rule}
+use Rattle.spec.specs.Book.{Book}
+use Rattle.spec.specs.BookLayout.{entries, contentsEnd, bookBytes, Arities, SoundSummary, SoundValue, SoundBook}
 use Rattle.spec.proofs.Decided.Equal.{eqNumber}
 use Rattle.spec.proofs.Decided.Safety.{safe-complete}
-use Rattle.spec.specs.Book.{Book}
 use Rattle.spec.proofs.Examples.Written.{x0, x1, rule, on, stamped}
-use Rattle.spec.specs.BookLayout.{entries, contentsEnd, bookBytes, Arities, SoundSummary, SoundValue, SoundBook}
 use Rattle.spec.proofs.Bytes.SoundTest.{book-sound, distinct-complete, relations-sound, relations-complete}
 use Rattle.spec.proofs.Examples.ContentsExamples.{plain}
 use Rattle.spec.proofs.Examples.BoundExamples.{plainValue}

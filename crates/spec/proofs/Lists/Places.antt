@@ -6,8 +6,8 @@ use Prim.Native.Nat.{ℕ, zero, suc, _<_}
 use native.Mathlib.Omega.{arith}
 use lib.ListN.{length, getD, drop}
 use Rattle.spec.specs.Words.{_∈_}
-use Rattle.spec.proofs.Lists.Counted as counted
 use Rattle.spec.specs.Summaries.{place}
+use Rattle.spec.proofs.Lists.Counted as counted
 
 pub getD-in : {A : Type 0} (l : List A) (i : ℕ) (d : A) → i < length l → getD l i d ∈ l
 getD-in [] i d h = absurd (omega arith)

@@ -3,8 +3,8 @@ use mathlib.Core.Path.{refl, sym, subst}
 use mathlib.Core.Logic.{⊎-elim, _⊎_}
 use mathlib.Core.Bool.{Bool, true, false, cond}
 use mathlib.Core.List.{List, [], _∷_, _++_, map, List·Memᴰ·head, List·Memᴰ·tail, Memᴰ·of-map, List·Memᴰ·append-cases, List·Memᴰ·not-nil}
-use Rattle.spec.specs.Words.{_∈_, Term, Subgoal}
 use Prim.Native.Nat.{ℕ, _+_, _-_}
+use Rattle.spec.specs.Words.{_∈_, Term, Subgoal}
 use Rattle.spec.specs.Order.{RowBefore, Ascending}
 use Rattle.spec.proofs.Lists.Gathered.{gather, gather-out, passing, passing-out}
 use Rattle.spec.proofs.Decided.Orders.{rowOrder}

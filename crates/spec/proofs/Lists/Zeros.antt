@@ -1,10 +1,10 @@
 -- Lists of zeros: what stands in them, in their fronts and in what is left of them.
 use mathlib.Core.Path.{_≡_, refl, ap}
+use mathlib.Core.List.{List, _∷_}
 use Prim.Native.Nat.{ℕ, _<_, zero, suc, _≤_, _-_}
 use native.Mathlib.Omega.{arith}
 use native.Mathlib.Decide.{decLt}
 use lib.ListN.{getD, replicate, length-replicate, getD-replicate, List·getD-eq-default, take, drop}
-use mathlib.Core.List.{List, _∷_}
 
 pub zero-at : (n i : ℕ) → _≡_ {A = ℕ} (getD (replicate n 0) i 0) 0
 zero-at n i = go (decLt i n)

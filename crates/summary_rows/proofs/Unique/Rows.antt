@@ -5,13 +5,13 @@ use Prim.Native.Nat.{ℕ, _+_, _*_, _-_}
 use lib.Dec.{ltb}
 use lib.ListN.{length, take, drop}
 use Rattle.spec.specs.Words.{Rule}
+use Rattle.spec.specs.Table.{mostRows}
 use Rattle.spec.proofs.Decided.Orders.{rowOrder}
 use Rattle.spec.proofs.Lists.Strict.{Strict}
 use Rattle.spec.proofs.Lists.Enumerate.{Enumerates, enumerates-first}
 use Rattle.codes.specs.Code.{termCode, codesOf}
 use Rattle.task.specs.Task.{Task}
 use Rattle.summary_rows.specs.RowsAfter.{RowBy, RowsAfter, RowsNeeds, Promised}
-use Rattle.spec.specs.Table.{mostRows}
 use Rattle.summary_rows.specs.declared.Tally.{Tally}
 use Rattle.summary_rows.proofs.Residual.{first-of, none-of, rest-enumerates}
 

@@ -4,8 +4,8 @@ use mathlib.Core.List.{List}
 use Prim.Native.Nat.{ℕ, _+_, _<_, _≤_}
 use native.Mathlib.Omega.{arith}
 use lib.ListN.{length, getD, set, length-set}
-use Rattle.witness_check.proofs.WayThere.Storing.{one-more}
 use Rattle.witness_check.specs.WayBack.Places.{Before, BytePlaces}
+use Rattle.witness_check.proofs.WayThere.Storing.{one-more}
 
 pub bytes-start : (bytes ks : List ℕ) → length ks ≡ 96 → BytePlaces bytes 0 ks
 bytes-start bytes ks e = record { long = e; at = λ i o. absurd (omega arith) }

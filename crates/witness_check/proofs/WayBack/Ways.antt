@@ -11,16 +11,16 @@ use Rattle.spec.specs.Words.{Term, Subgoal}
 use Rattle.spec.specs.Summaries.{rewriting, uses, joined}
 use Rattle.spec.specs.Answer.{Back}
 use Rattle.spec.specs.Book.{Book, admittedOf}
-use Rattle.task.specs.Mapped.{Mapped}
 use Rattle.outcomes.proofs.Rooms.{back-long}
+use Rattle.book_codes.specs.Question.{QuestionTarget, QuestionBound}
+use Rattle.book_codes.specs.UsesLent.{SourceUsesOf}
+use Rattle.book_codes.proofs.Lent.{targets-few}
+use Rattle.book_codes.proofs.BackTask as back
+use Rattle.bits.proofs.Laws.{exactly-no}
+use Rattle.task.specs.Mapped.{Mapped}
 use Rattle.task.specs.Follows.{Follows}
 use Rattle.search_meaning.proofs.Back.{places-from}
-use Rattle.book_codes.specs.Question.{QuestionTarget, QuestionBound}
-use Rattle.book_codes.proofs.Lent.{targets-few}
-use Rattle.book_codes.specs.UsesLent.{SourceUsesOf}
-use Rattle.book_codes.proofs.BackTask as back
 use Rattle.witness_check.specs.WayThere.Places.{nowhere}
-use Rattle.bits.proofs.Laws.{exactly-no}
 use Rattle.witness_check.specs.WayBack.Places.{Before, BytePlaces}
 use Rattle.witness_check.proofs.WayBack.Named.{bytes-named, named-bytes}
 

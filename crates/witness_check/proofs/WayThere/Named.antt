@@ -6,10 +6,10 @@ use native.Mathlib.Omega.{arith}
 use native.Mathlib.Decide.{decLt}
 use lib.ListN.{length, getD, length-append}
 use Rattle.spec.specs.Summaries.{joined}
-use Rattle.search_meaning.specs.Uses.{useAt, withinAt, pairsOf}
-use Rattle.search_meaning.proofs.Pairs.{use-here, use-later}
 use Rattle.book_codes.specs.Insides.{starts}
 use Rattle.book_codes.proofs.Read.{first-start}
+use Rattle.search_meaning.specs.Uses.{useAt, withinAt, pairsOf}
+use Rattle.search_meaning.proofs.Pairs.{use-here, use-later}
 use Rattle.witness_check.specs.WayThere.Places.{nowhere, InUse, PlaceOf}
 
 module _ {A : Type 0} where

@@ -9,13 +9,13 @@ use Rattle.spec.specs.Words.{Term, Subgoal}
 use Rattle.spec.specs.Summaries.{uses}
 use Rattle.spec.specs.Book.{Book, admittedOf}
 use Rattle.codes.specs.Code.{ownCode}
-use Rattle.search_meaning.proofs.Owners.{uses-long}
+use Rattle.rule_codes.proofs.Stores.{front-again}
 use Rattle.book_codes.specs.Insides.{starts}
 use Rattle.book_codes.specs.AllUses.{GoalsCounted, AllCodes, AllOwners, AllInsides, AllStarts}
-use Rattle.book_codes.proofs.Beginnings.{starts-long}
-use Rattle.rule_codes.proofs.Stores.{front-again}
 use Rattle.book_codes.specs.FewRows.{FewRowsOf, FewRows}
+use Rattle.book_codes.proofs.Beginnings.{starts-long}
 use Rattle.book_codes.proofs.Expanded.{onto-of}
+use Rattle.search_meaning.proofs.Owners.{uses-long}
 use Rattle.witness_check.specs.WayThere.Confirms.{ThereConfirms}
 use Rattle.witness_check.specs.WayThere.Steps.{StoodOf, Stood, StoodConfirms}
 

@@ -11,20 +11,20 @@ use Rattle.spec.specs.Words.{Term, Subgoal}
 use Rattle.spec.specs.Summaries.{Own, rewriting, uses, joined}
 use Rattle.spec.specs.Answer.{There}
 use Rattle.spec.specs.Book.{Book, admittedOf}
-use Rattle.task.specs.Mapped.{Mapped}
 use Rattle.outcomes.proofs.Rooms.{there-long}
+use Rattle.outcomes.proofs.Bounds.{book-bounds}
+use Rattle.book_codes.specs.Insides.{insides, starts}
+use Rattle.book_codes.specs.Question.{SomeSound, QuestionSource, QuestionBound}
+use Rattle.book_codes.specs.UsesLent.{TargetUsesOf}
+use Rattle.book_codes.proofs.Lent.{goals-few, source-widths}
+use Rattle.book_codes.proofs.ThereTask as there
+use Rattle.bits.proofs.Laws.{exactly-no}
+use Rattle.task.specs.Mapped.{Mapped}
 use Rattle.task.specs.Follows.{Follows}
 use Rattle.search_meaning.specs.Uses.{pairsOf}
-use Rattle.outcomes.proofs.Bounds.{book-bounds}
 use Rattle.search_meaning.proofs.InUse.{uses-few}
 use Rattle.search_meaning.proofs.Owners.{owners-long, uses-long}
 use Rattle.search_meaning.proofs.Pairs.{pairs-places}
-use Rattle.book_codes.specs.Insides.{insides, starts}
-use Rattle.book_codes.specs.Question.{SomeSound, QuestionSource, QuestionBound}
-use Rattle.book_codes.proofs.Lent.{goals-few, source-widths}
-use Rattle.book_codes.specs.UsesLent.{TargetUsesOf}
-use Rattle.book_codes.proofs.ThereTask as there
-use Rattle.bits.proofs.Laws.{exactly-no}
 use Rattle.witness_check.specs.WayThere.Places.{nowhere, PlaceOf, PairPlaces}
 use Rattle.witness_check.specs.WayThere.Steps.{StoodOf, Stood}
 use Rattle.witness_check.proofs.WayThere.Named.{pairs-named, named-pairs}

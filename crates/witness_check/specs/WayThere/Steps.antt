@@ -9,8 +9,8 @@ use Rattle.spec.specs.Words.{Term, Subgoal}
 use Rattle.spec.specs.Summaries.{rewriting, uses, joined}
 use Rattle.spec.specs.Answer.{There}
 use Rattle.spec.specs.Book.{Book, admittedOf}
-use Rattle.codes.specs.Code.{ownCode, codesOf}
 use Rattle.choice_theory.specs.Placed.{owners}
+use Rattle.codes.specs.Code.{ownCode, codesOf}
 use Rattle.book_codes.specs.Insides.{starts}
 use Rattle.book_codes.specs.FewRows.{ListOf}
 
