@@ -8,6 +8,8 @@ ghost use Rattle.spec.specs.LeadSays.{leadSays};
 
 pub mod summaries; // whether a summary of a sound book is admitted
 
+use spec::Lead;
+
 pub fn lead_of(need: u32, stamp: u32) -> Lead
     ensures { λ r. ⌜ leadSays r ≡ lead need stamp ⌝ }
 {
@@ -36,8 +38,6 @@ pub fn is_admitted(need: u32, stamp: u32) -> bool
 }
 
 // A lead without its sign, for programs that print it. It is taken at 64 bits, where the negation of every i32 fits.
-use spec::Lead;
-
 pub fn size_of(lead: i32) -> u64
     ensures { λ r. ⌜ r ≡ natAbs lead ⌝ }
 {

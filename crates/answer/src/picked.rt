@@ -4,8 +4,6 @@ ghost use Prim.Native.Nat.{_+_, _*_, _≤_, _<_};
 ghost use lib.ListN.{length, take, drop};
 ghost use lib.Seq.{sets};
 ghost use Rattle.answer.specs.Picked.{Pickable, pickedCodes, widthIn, pickedWidths};
-
-// How many terms a row has: a code of 1 stands where they have ended.
 use codes::NONE;
 use codes::SUBGOAL_CODES;
 use spec::MOST_ARITY;
@@ -13,6 +11,7 @@ use spec::QUESTION_GOALS;
 
 const WIDEST: u8 = MOST_ARITY as u8;
 
+// How many terms a row has: a code of 1 stands where they have ended.
 fn width_in(codes: &[u64], r: usize) -> u8
     requires { ⌜ 9 * r + 9 ≤ length (now codes) ⌝ }
     ensures { λ n. ⌜ n ≡ widthIn (now (codes .entry)) (9 * r + 1) 8 ⌝ }

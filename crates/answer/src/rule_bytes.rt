@@ -1,15 +1,14 @@
 // A rewriting written as bytes: the question's head, and rows from the codes that the search has them in.
 ghost use mathlib.Core.Path.{_≡_};
 ghost use Prim.Native.Nat.{_+_, _*_, _≤_, _<_};
-ghost use lib.ListN.{length, take, drop, getD};
+ghost use lib.ListN.{length, take, drop};
 ghost use lib.Seq.{sets};
 ghost use Rattle.answer.specs.Bytes.{tagOf, codeBytes, codesBytes, rowBytes, rowsBytes, RowsStand, rewritingBytes, Writable};
-
-// 0 for a variable's code, 1 for a constant's.
 use codes::CONSTANT;
 use codes::SUBGOAL_CODES;
 use codes::UNIT;
 
+// 0 for a variable's code, 1 for a constant's.
 fn tag_byte(code: u64) -> u8
     ensures { λ r. ⌜ r ≡ tagOf code ⌝ }
 {

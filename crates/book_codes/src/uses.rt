@@ -1,5 +1,4 @@
 // The uses of a list of rows, one after the other.
-ghost use mathlib.Core.Path.{_≡_};
 ghost use Prim.Native.Nat.{_+_, _*_, _<_, _≤_};
 ghost use lib.ListN.{length};
 ghost use Rattle.codes.specs.Code.{ownCode, ownSlot};

@@ -1,6 +1,6 @@
 // A whole book of bytes: sound, or refused with 2 to 8.
 ghost use mathlib.Core.Path.{_≡_};
-ghost use Prim.Native.Nat.{_≤_, _<_};
+ghost use Prim.Native.Nat.{_<_};
 ghost use Rattle.spec.specs.Contents.{count, entriesIn, partAt};
 ghost use Rattle.spec.specs.Refusals.{Loads, mostAt};
 ghost use Rattle.rules.specs.Judged.{Judged, faultNumber, refusalNumber};

@@ -1,14 +1,12 @@
 // Whether rows can do, by the search over them less those that others dominate: wherever such a row serves, the other does. And whether a row dominates another.
-ghost use mathlib.Core.Path.{_≡_};
 ghost use Prim.Native.Nat.{_<_, _≤_};
 ghost use Rattle.task.specs.Task.{posed};
 ghost use Rattle.placing.specs.FirstPlaces.{Enough};
 ghost use Rattle.first_shortest.specs.Pruning.{Spared, Pruned, PosedWith, Uses, TellsDominance};
-
-// Without the row, if another that is used or may be dominates it; `over` has the rows that do.
 use codes::SLOTS;
 use spec::MOST_ROWS;
 
+// Without the row, if another that is used or may be dominates it; `over` has the rows that do.
 fn spared(used: u64, may: u64, over: u64, row: usize) -> u64
     requires { ⌜ row < 64 ⌝ }
     ensures { λ r. ⌜ Spared used may over row r ⌝ }

@@ -5,14 +5,15 @@ ghost use Rattle.task.specs.Task.{posed};
 ghost use Rattle.first_shortest.specs.Pruning.{PosedWith};
 ghost use Rattle.first_shortest.specs.Chosen.{Chooses};
 ghost use Rattle.first_shortest.specs.Passing.{nothing, found, starting, taking, passing, Fewest, Tried, Underway};
+
+pub mod feasibility; // whether rows can do; whether a row dominates another
+
 use codes::SLOTS;
 use spec::MOST_ROWS;
 use spec::QUESTION_GOALS;
 
 // As many rows as never do: told where none of up to twelve can.
 const TOO_FEW: usize = QUESTION_GOALS + 1;
-
-pub mod feasibility; // whether rows can do; whether a row dominates another
 
 // How many rows are chosen, and their numbers, in order; or that no list of rows will do.
 pub struct Chosen {

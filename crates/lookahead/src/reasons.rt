@@ -1,11 +1,8 @@
 // Rows that are entered, and the reasons of a failure.
-use task::terms::noted;
 ghost use mathlib.Core.Path.{_≡_};
-ghost use Prim.Native.Nat.{_<_, _≤_};
-ghost use lib.Dec.{eqb};
-ghost use lib.ListN.{length};
+ghost use Prim.Native.Nat.{_<_};
 ghost use Rattle.lookahead.specs.Steps.{blaming, shorting, joining, seeing, rowsOf, entryOf, Entering, Settled, noReasons};
-ghost use Rattle.task.specs.Terms.{stood, noting, Opened};
+use task::terms::noted;
 
 // Why a search fails: the slots whose bindings stood in the way, and whether more rows might have helped.
 pub struct Reasons {

@@ -1,5 +1,4 @@
 // What stands where in a rule's bytes.
-ghost use mathlib.Core.Path.{_≡_};
 ghost use Prim.Native.Nat.{_<_};
 ghost use Rattle.rule_codes.specs.Laid.{Laid};
 ghost use Rattle.rule_codes.specs.Promises.{HeadCount, GoalCount};

@@ -7,14 +7,15 @@ ghost use Rattle.rules.specs.Judged.{Judged};
 
 mod subgoals; // terms and subgoals, read from the front
 
+pub use crate::subgoals::Fault;
 use crate::subgoals::Marks;
 use crate::subgoals::Step;
 use crate::subgoals::read_subgoals;
 use crate::subgoals::read_terms;
 use numbers::wide;
 use spec::MOST_HEAD;
+
 // a verdict tells the fault, so those who ask for one find it here
-pub use crate::subgoals::Fault;
 
 // A whole rule: the notes of its head and of its body.
 pub enum Whole {

@@ -1,4 +1,4 @@
--- Demand 3, of a book, and of what the rewriter gave.
+-- Demand 3: of a book's value, of what the rewriter gave, and of what the checker said yes to.
 use mathlib.Core.Path.{_≡_}
 use mathlib.Core.Option.{some}
 use mathlib.Core.Logic.{_↔_}

@@ -6,6 +6,7 @@ use Prim.Native.Nat.{ℕ}
 use Rattle.spec.specs.Refresh.{Admitted}
 use Rattle.spec.specs.Book.{Summary}
 
+-- A summary that is not admitted.
 abbrev pub LeftOut : ℕ → Summary → Type 0
 LeftOut need m = Admitted need (m .stamp) (m .rule) → ⊥
 

@@ -4,15 +4,14 @@ ghost use Prim.Native.Nat.{_<_, _≤_};
 ghost use lib.Dec.{eqb};
 ghost use lib.ListN.{length};
 ghost use Rattle.task.specs.Terms.{stood, noting, Opened};
+use codes::SLOTS;
+use codes::UNIT;
+use spec::VARIABLES;
 
 // A source term below this is a slot.
 const SLOT_END: u64 = SLOTS as u64;
 
 // Two terms are compared by tag, then by number.
-use codes::SLOTS;
-use codes::UNIT;
-use spec::VARIABLES;
-
 pub fn alike(x: u64, y: u64) -> bool
     ensures { λ r. ⌜ r ≡ eqb x y ⌝ }
 {

@@ -1,13 +1,11 @@
 // The witness written as bytes, from places counted from 0.
 ghost use mathlib.Core.Path.{_≡_};
-ghost use Prim.Native.Nat.{_+_, _*_, _≤_};
-ghost use lib.ListN.{length};
+ghost use Prim.Native.Nat.{_+_, _*_};
 ghost use lib.Seq.{sets};
 ghost use Rattle.witness.specs.WitnessBytes.{pairBytes, placeBytes, PairsFit, PlacesFit};
-
-// Two bytes for each of n places: the use that it lies in and its place there, both counted from 1.
 use codes::USES_GOALS;
 
+// Two bytes for each of n places: the use that it lies in and its place there, both counted from 1.
 pub fn put_pairs(out: &mut [u8], ks: &[u16; USES_GOALS], own: &[u8], inner: &[u8], n: usize)
     requires { ⌜ PairsFit (now out) (now ks) (now own) (now inner) n ⌝ }
     ensures { λ _. ⌜ now (out .exit) ≡ sets (now (out .entry)) 0 (pairBytes (now (ks .entry)) (now (own .entry)) (now (inner .entry)) 0 n) ⌝ }

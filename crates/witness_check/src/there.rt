@@ -1,6 +1,5 @@
 // Whether bytes are the first part of a witness, a containment mapping from the question to the rewriting's expansion,
 // "per question subgoal, two bytes: rewriting subgoal and subgoal within that summary".
-ghost use mathlib.Core.Path.{_≡_};
 ghost use Prim.Native.Nat.{_*_, _<_, _≤_};
 ghost use lib.ListN.{length};
 ghost use Rattle.book_codes.specs.FewRows.{FewRows};
