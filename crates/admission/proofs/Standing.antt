@@ -16,7 +16,7 @@ use Rattle.spec.proofs.Lists.Places.{place-map, place-some}
 use Rattle.spec.proofs.Bytes.BookStands.{book-count, book-entries, question-stamp, summary-stamp}
 use Rattle.spec.proofs.Bytes.BookPasses.{book-loads}
 use Rattle.spec.proofs.Bytes.Within.{entries-are, entries-some, loads-room}
-use Rattle.admission.specs.Admission.{HasSummary, SaysIn}
+use Rattle.admission.specs.Admission.{HasSummary, AdmissionSays}
 
 module _ {book : List ℕ} {i : ℕ} (has : HasSummary book i) where
   pub entry-there : i + 1 < entriesIn book
@@ -40,7 +40,7 @@ module _ {book : List ℕ} {i : ℕ} (has : HasSummary book i) where
 pub admitted-at : (b : Book) (i : ℕ) (u : Summary) → place (b .summaries) i ≡ some u → summary (admittedOf b) i ≡ ifTrue (admitted (b .need) (u .stamp) (u .rule)) (u .rule)
 admitted-at b i u p = ap orNone (place-map (λ s. ifTrue (admitted (b .need) (s .stamp) (s .rule)) (s .rule)) (b .summaries) i u p)
 
-pub says-in : (book : List ℕ) (i : ℕ) (need stamp : ℕ) (r : Bool) → need ≡ stampAt book 1 → stamp ≡ stampAt book (i + 1) → ((rule : Rule ℕ) → r ≡ admitted need stamp rule) → SaysIn book i r
+pub says-in : (book : List ℕ) (i : ℕ) (need stamp : ℕ) (r : Bool) → need ≡ stampAt book 1 → stamp ≡ stampAt book (i + 1) → ((rule : Rule ℕ) → r ≡ admitted need stamp rule) → AdmissionSays book i r
 says-in book i need stamp r n t h = record { is = is }
   where
     is : (b : Book) → SoundBook book b → (u : Summary) → place (b .summaries) i ≡ some u → summary (admittedOf b) i ≡ ifTrue r (u .rule)

@@ -17,5 +17,5 @@ pub record HasSummary (book : List ℕ) (i : ℕ) : Type 0 where
   pub to : i ≤ length (value .summaries)
 
 -- "A summary is admitted exactly if it has a lead of 0 or more": its rule has a say exactly if the test says so.
-pub record SaysIn (book : List ℕ) (i : ℕ) (r : Bool) : Type 0 where
+pub record AdmissionSays (book : List ℕ) (i : ℕ) (r : Bool) : Type 0 where
   pub is : (b : Book) → SoundBook book b → (u : Summary) → place (b .summaries) i ≡ some u → summary (admittedOf b) i ≡ ifTrue r (u .rule)

@@ -22,8 +22,8 @@ use Rattle.codes.proofs.Padded.{codes-length}
 use Rattle.first_shortest.specs.Chosen.{numbersOf}
 use Rattle.first_shortest.specs.declared.Chosen.{Chosen}
 use Rattle.row_choice.specs.Asked.{ChoiceNeedsOf}
-use Rattle.answer.specs.Picked.{pickedCodes, pickedWidths, Pickable}
-use Rattle.answer.specs.Steps.{Puts, ChosenPut}
+use Rattle.answer.specs.Picked.{pickedCodes, pickedWidths, PickNeeds}
+use Rattle.answer.specs.Steps.{PutNeeds, AnswerNeeds}
 use Rattle.answer.proofs.PickMeans.{picked-means, widths-mean}
 
 -- a summary row is at most as wide as a head
@@ -47,7 +47,7 @@ small-at [] rest h z r = omega (arith, z r)
 small-at (x ∷ front) rest h z zero = h x (List·Memᴰ·head refl)
 small-at (x ∷ front) rest h z (suc r) = small-at front rest (λ y m. h y (List·Memᴰ·tail m)) z r
 
-module _ {book rows : List ℕ} {n : ℕ} {chosen : Chosen} {answer witness : ℕ} (p : ChosenPut book rows n chosen answer witness) where
+module _ {book rows : List ℕ} {n : ℕ} {chosen : Chosen} {answer witness : ℕ} (p : AnswerNeeds book rows n chosen answer witness) where
   abbrev b : Book
   b = p .asked .value
 
@@ -77,7 +77,7 @@ module _ {book rows : List ℕ} {n : ℕ} {chosen : Chosen} {answer witness : �
   codes-stand : (j : ℕ) → j < k → 9 * getD (chosen .rows) j 0 + 9 ≤ length rows
   codes-stand j h = omega (arith, named j h, ap length (asked .codes), length-append (codesOf termCode all) (asked .rest), codes-length termCode all)
 
-  pub pickable : {out widths : List ℕ} → 108 ≤ length out → 12 ≤ length widths → Pickable rows (chosen .rows) k out widths
+  pub pickable : {out widths : List ℕ} → 108 ≤ length out → 12 ≤ length widths → PickNeeds rows (chosen .rows) k out widths
   pickable wide many = let f = p .found .few in record { few = f; stand = codes-stand; room = omega arith; told = omega arith }
 
   codes-picked : pickedCodes rows (chosen .rows) 0 k ≡ codesOf termCode list
@@ -102,7 +102,7 @@ module _ {book rows : List ℕ} {n : ℕ} {chosen : Chosen} {answer witness : �
     widths-front : widths ≡ widthsOf list ++ drop (length (widthsOf list)) (replicate 12 0)
     widths-front = told ∙ ap (sets (replicate 12 0) 0) widths-picked ∙ stored-front (widthsOf list) (replicate 12 0) (let f = p .found .few in omega (arith, length-map list (λ g. length (g .terms)), list-long))
 
-    pub puts : Puts book codes widths k answer witness
+    pub puts : PutNeeds book codes widths k answer witness
     puts = record {
       value = b;
       sound = asked .sound;

@@ -32,10 +32,10 @@ use Rattle.book_codes.specs.RowsGiven.{RowsOf}
 use Rattle.book_codes.specs.FewRows.{FewRowsOf}
 use Rattle.book_codes.proofs.RowUse.{summary-few}
 use Rattle.book_codes.proofs.SummaryRows.{summary-rows}
-use Rattle.witness.specs.ThereTold.{Tells, ThereOf, ThereTold}
-use Rattle.witness.specs.BackTold.{BackOf, BackTold}
-use Rattle.answer.specs.Bytes.{rewritingBytes, Writable}
-use Rattle.answer.specs.Steps.{Puts}
+use Rattle.witness.specs.ThereTold.{WitnessNeeds, ThereOf, ThereSays}
+use Rattle.witness.specs.BackTold.{BackOf, BackSays}
+use Rattle.answer.specs.Bytes.{rewritingBytes, RuleBytesNeeds}
+use Rattle.answer.specs.Steps.{PutNeeds}
 use Rattle.answer.proofs.Means.{RowWithin, rewriting-means}
 use Rattle.answer.proofs.ChosenLaws.{stored-front}
 
@@ -54,7 +54,7 @@ module _ {answer witness : ℕ} (room : Fault1 answer witness → ⊥) where
     | no h ↦ omega arith
   ]
 
-module _ {book codes widths : List ℕ} {k answer witness : ℕ} (p : Puts book codes widths k answer witness) where
+module _ {book codes widths : List ℕ} {k answer witness : ℕ} (p : PutNeeds book codes widths k answer witness) where
   abbrev b : Book
   b = p .value
 
@@ -72,7 +72,7 @@ module _ {book codes widths : List ℕ} {k answer witness : ℕ} (p : Puts book 
   few-of : FewRowsOf book codes k b l
   few-of = record { rows-of = rows-of; few = p .short }
 
-  pub tells : Tells book codes k
+  pub tells : WitnessNeeds book codes k
   tells = record { some = record { value = b; list = l; is = few-of }; serves = p .answers .holds .equivalent }
 
   pub question-there : Loads book × (1 < entriesIn book)
@@ -105,7 +105,7 @@ module _ {book codes widths : List ℕ} {k answer witness : ℕ} (p : Puts book 
   body-is : {body : List ℕ} → body ≡ partAt book 1 → ruleBytes (b .question) ≡ body
   body-is e = sym (e ∙ question-part (p .sound))
 
-  pub writable : {body out : List ℕ} → body ≡ partAt book 1 → length out ≡ answer → Writable out body codes widths k
+  pub writable : {body out : List ℕ} → body ≡ partAt book 1 → length out ≡ answer → RuleBytesNeeds out body codes widths k
   writable {body} e same =
       let short = p .sound .value .question .within .short in
       let head : getD body 0 0 ≡ length (b .question .head) = ap (λ y. getD y 0 0) (sym (body-is e)) in
@@ -122,11 +122,11 @@ module _ {book codes widths : List ℕ} {k answer witness : ℕ} (p : Puts book 
         };
       }
 
-module _ {book codes widths : List ℕ} {k : ℕ} (a w : List ℕ) (p : Puts book codes widths k (length a) (length w)) where
+module _ {book codes widths : List ℕ} {k : ℕ} (a w : List ℕ) (p : PutNeeds book codes widths k (length a) (length w)) where
   abbrev q : Rule ℕ
   q = p .value .question
 
-  module _ {w₁ w₂ : List ℕ} {m n : ℕ} (there : ThereTold book codes k w w₁ m) (back : BackTold book codes k m w₁ w₂ n) where
+  module _ {w₁ w₂ : List ℕ} {m n : ℕ} (there : ThereSays book codes k w w₁ m) (back : BackSays book codes k m w₁ w₂ n) where
     goes : ThereOf (p .value) (p .list) w w₁ m
     goes = there .is (p .value) (p .list) (few-of p) (p .answers .holds .equivalent)
 
@@ -163,11 +163,11 @@ module _ {book codes widths : List ℕ} {k : ℕ} (a w : List ℕ) (p : Puts boo
       }
 
 -- both parts are short
-pub lengths-fit : {book codes widths : List ℕ} {k answer witness : ℕ} (p : Puts book codes widths k answer witness) {w w₁ w₂ : List ℕ} {m n : ℕ} → ThereTold book codes k w w₁ m → BackTold book codes k m w₁ w₂ n → (m ≤ 24) × (n ≤ 96)
+pub lengths-fit : {book codes widths : List ℕ} {k answer witness : ℕ} (p : PutNeeds book codes widths k answer witness) {w w₁ w₂ : List ℕ} {m n : ℕ} → ThereSays book codes k w w₁ m → BackSays book codes k m w₁ w₂ n → (m ≤ 24) × (n ≤ 96)
 lengths-fit p there back = (there .is (p .value) (p .list) (few-of p) (p .answers .holds .equivalent) .few, back .is (p .value) (p .list) (few-of p) (p .answers .holds .equivalent) .few)
 
 -- there is room left behind the first part
-pub there-kept : {book codes widths : List ℕ} {k answer : ℕ} (w : List ℕ) (p : Puts book codes widths k answer (length w)) {w₁ : List ℕ} {m : ℕ} → ThereTold book codes k w w₁ m → m + 96 ≤ length w₁
+pub there-kept : {book codes widths : List ℕ} {k answer : ℕ} (w : List ℕ) (p : PutNeeds book codes widths k answer (length w)) {w₁ : List ℕ} {m : ℕ} → ThereSays book codes k w w₁ m → m + 96 ≤ length w₁
 there-kept w p {w₁} {m} there =
     let t = there .is (p .value) (p .list) (few-of p) (p .answers .holds .equivalent) in
     let few = t .few in

@@ -39,7 +39,7 @@ abbrev pub rewritingBytes : List ℕ → List ℕ → List ℕ → ℕ → List 
 rewritingBytes body codes widths k = getD body 0 0 ∷ k ∷ (take (5 * getD body 0 0) (drop 2 body) ++ rowsBytes codes widths 0 k)
 
 -- there is room for the longest rewriting, and the question's head and the rows stand where they are read
-pub record Writable (out body codes widths : List ℕ) (k : ℕ) : Type 0 where
+pub record RuleBytesNeeds (out body codes widths : List ℕ) (k : ℕ) : Type 0 where
   pub room : 534 ≤ length out
   pub short : getD body 0 0 ≤ 8
   pub head : 2 + 5 * getD body 0 0 ≤ length body

@@ -20,7 +20,7 @@ pickedWidths codes rows i zero = []
 pickedWidths codes rows i (suc n) = widthIn codes (9 * getD rows i 0 + 1) 8 ∷ pickedWidths codes rows (suc i) n
 
 -- the rows named stand in the codes, and there is room for them
-pub record Pickable (codes rows : List ℕ) (k : ℕ) (out widths : List ℕ) : Type 0 where
+pub record PickNeeds (codes rows : List ℕ) (k : ℕ) (out widths : List ℕ) : Type 0 where
   pub few : k ≤ 12
   pub stand : (i : ℕ) → i < k → 9 * getD rows i 0 + 9 ≤ length codes
   pub room : 9 * k ≤ length out

@@ -15,7 +15,7 @@ use Rattle.first_shortest.specs.declared.Chosen.{Chosen}
 use Rattle.row_choice.specs.Asked.{ChoiceNeeds}
 
 -- The rows at the front are the answer to a sound book's question, and there is room for it.
-pub record Puts (book codes widths : List ℕ) (k answer witness : ℕ) : Type 0 where
+pub record PutNeeds (book codes widths : List ℕ) (k answer witness : ℕ) : Type 0 where
   pub value : Book
   pub sound : SoundBook book value
   pub few : Fault9 (admittedOf value) (value .question) → ⊥
@@ -31,7 +31,7 @@ pub record Puts (book codes widths : List ℕ) (k answer witness : ℕ) : Type 0
   pub narrow : (r : ℕ) → getD widths r 0 ≤ 8
 
 -- The rows chosen of all summary rows.
-pub record ChosenPut (book rows : List ℕ) (n : ℕ) (chosen : Chosen) (answer witness : ℕ) : Type 0 where
+pub record AnswerNeeds (book rows : List ℕ) (n : ℕ) (chosen : Chosen) (answer witness : ℕ) : Type 0 where
   pub asked : ChoiceNeeds book rows n
   pub found : Found (admittedOf (asked .value)) (asked .value .question) (allRows (admittedOf (asked .value)) (asked .value .question)) chosen
   pub room : Fault1 answer witness → ⊥

@@ -1,7 +1,7 @@
 // The chosen rows of a sound book as the bytes of answer and witness, in two lent areas.
 ghost use lib.ListN.{length};
 ghost use Rattle.spec.specs.Rewriting.{Accepted};
-ghost use Rattle.answer.specs.Steps.{Puts, ChosenPut};
+ghost use Rattle.answer.specs.Steps.{PutNeeds, AnswerNeeds};
 
 mod picked; // the chosen rows, out of the codes of all
 mod rule_bytes; // a rewriting as bytes
@@ -30,7 +30,7 @@ fn put_all(
     answer: &mut [u8],
     witness: &mut [u8],
 ) -> Lengths
-    requires { ⌜ Puts (now book) (now codes) (now widths) k (length (now answer)) (length (now witness)) ⌝ }
+    requires { ⌜ PutNeeds (now book) (now codes) (now widths) k (length (now answer)) (length (now witness)) ⌝ }
     ensures { λ r. ⌜ Accepted (now (book .entry)) (now (answer .entry)) (now (answer .exit)) (now (witness .entry)) (now (witness .exit)) (r .answer) (r .witness) ⌝ }
 {
     let there = put_there(book, codes, k, witness);
@@ -51,7 +51,7 @@ pub fn put_chosen(
     answer: &mut [u8],
     witness: &mut [u8],
 ) -> Lengths
-    requires { ⌜ ChosenPut (now book) (now rows) n chosen (length (now answer)) (length (now witness)) ⌝ }
+    requires { ⌜ AnswerNeeds (now book) (now rows) n chosen (length (now answer)) (length (now witness)) ⌝ }
     ensures { λ r. ⌜ Accepted (now (book .entry)) (now (answer .entry)) (now (answer .exit)) (now (witness .entry)) (now (witness .exit)) (r .answer) (r .witness) ⌝ }
 {
     let k = chosen.k;

@@ -3,7 +3,7 @@ ghost use mathlib.Core.Path.{_≡_};
 ghost use Prim.Native.Nat.{_+_, _*_, _≤_, _<_};
 ghost use lib.ListN.{length, take, drop};
 ghost use lib.Seq.{sets};
-ghost use Rattle.answer.specs.Picked.{Pickable, pickedCodes, widthIn, pickedWidths};
+ghost use Rattle.answer.specs.Picked.{PickNeeds, pickedCodes, widthIn, pickedWidths};
 use codes::NONE;
 use codes::SUBGOAL_CODES;
 use spec::MOST_ARITY;
@@ -46,7 +46,7 @@ pub(crate) fn pick(
     out: &mut [u64],
     widths: &mut [u8],
 )
-    requires { ⌜ Pickable (now codes) (now rows) k (now out) (now widths) ⌝ }
+    requires { ⌜ PickNeeds (now codes) (now rows) k (now out) (now widths) ⌝ }
     ensures { λ _. ⌜ (now (out .exit) ≡ sets (now (out .entry)) 0 (pickedCodes (now (codes .entry)) (now (rows .entry)) 0 k)) × (now (widths .exit) ≡ sets (now (widths .entry)) 0 (pickedWidths (now (codes .entry)) (now (rows .entry)) 0 k)) ⌝ }
 {
     let mut i: usize = 0;

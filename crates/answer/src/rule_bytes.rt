@@ -3,7 +3,7 @@ ghost use mathlib.Core.Path.{_≡_};
 ghost use Prim.Native.Nat.{_+_, _*_, _≤_, _<_};
 ghost use lib.ListN.{length, take, drop};
 ghost use lib.Seq.{sets};
-ghost use Rattle.answer.specs.Bytes.{tagOf, codeBytes, codesBytes, rowBytes, rowsBytes, RowsStand, rewritingBytes, Writable};
+ghost use Rattle.answer.specs.Bytes.{tagOf, codeBytes, codesBytes, rowBytes, rowsBytes, RowsStand, rewritingBytes, RuleBytesNeeds};
 use codes::CONSTANT;
 use codes::SUBGOAL_CODES;
 use codes::UNIT;
@@ -82,7 +82,7 @@ fn put_bytes(out: &mut [u8], at: usize, bytes: &[u8], from: usize, k: usize)
 
 // A rewriting: the head's length and terms are those of the question's bytes, the subgoals are k rows.
 pub fn put_rule(out: &mut [u8], body: &[u8], codes: &[u64], widths: &[u8], k: usize) -> usize
-    requires { ⌜ Writable (now out) (now body) (now codes) (now widths) k ⌝ }
+    requires { ⌜ RuleBytesNeeds (now out) (now body) (now codes) (now widths) k ⌝ }
     ensures { λ r. ⌜ (now (out .exit) ≡ sets (now (out .entry)) 0 (rewritingBytes (now (body .entry)) (now (codes .entry)) (now (widths .entry)) k)) × (r ≡ length (rewritingBytes (now (body .entry)) (now (codes .entry)) (now (widths .entry)) k)) ⌝ }
 {
     let heads = body[0] as usize;

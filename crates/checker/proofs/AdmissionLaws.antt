@@ -13,7 +13,7 @@ use Rattle.spec.specs.Contents.{count}
 use Rattle.spec.proofs.Bytes.BookStands.{book-count}
 use Rattle.spec.proofs.Lists.Tests.{says-both}
 use Rattle.outcomes.proofs.AsRule.{width-is}
-use Rattle.admission.specs.Admission.{HasSummary, SaysIn}
+use Rattle.admission.specs.Admission.{HasSummary, AdmissionSays}
 use Rattle.admission.proofs.Standing.{standing}
 use Rattle.book_codes.specs.Question.{SomeSound}
 use Rattle.bits.proofs.Laws.{exactly-yes, exactly-no}
@@ -33,7 +33,7 @@ module _ {book : List ℕ} {n number : ℕ} (all : n ≡ count book) where
   pub is-there : SomeSound book → (number ≡ 0 → ⊥) → number ≤ n → HasSummary book number
   is-there w z h = record { value = w .value; sound = w .sound; from = omega arith; to = omega (arith, book-count (w .sound)) }
 
-pub admits-as : {book : List ℕ} {number : ℕ} → HasSummary book number → (r : Bool) → SaysIn book number r → Admits book number r
+pub admits-as : {book : List ℕ} {number : ℕ} → HasSummary book number → (r : Bool) → AdmissionSays book number r → Admits book number r
 admits-as has true says = record { exactly = λ b s. let u = standing has b s in exactly-yes (u .0 .rule, says .is b s (u .0) (u .1)) }
 admits-as has false says = record { exactly = λ b s. let u = standing has b s in exactly-no (λ a. Option·none-ne-some (a .0) (sym (says .is b s (u .0) (u .1)) ∙ a .1)) }
 

@@ -24,7 +24,7 @@ use Rattle.admission.proofs.Standing.{entry-there, standing}
 use Rattle.rule_codes.specs.Laid.{Laid}
 use Rattle.rule_codes.specs.Promises.{HeadCount}
 use Rattle.book_codes.specs.Question.{SomeSound}
-use Rattle.checker.specs.Lengths.{HeadAt, HeadsTo, HeadsAre}
+use Rattle.checker.specs.Lengths.{HeadAt, HeadsTo, HeadsNeeds}
 
 -- where the count stands
 pub count-room : {book : List ℕ} → SomeSound book → 2 ≤ length book
@@ -92,7 +92,7 @@ module _ {book : List ℕ} (w : SomeSound book) {n : ℕ} (all : n ≡ count boo
     lent-long = length-take-le (n + 1) table (omega (arith, count-few))
 
     -- what is lent on
-    pub heads-are : HeadsTo book (count book) table → HeadsAre book (take (n + 1) table)
+    pub heads-are : HeadsTo book (count book) table → HeadsNeeds book (take (n + 1) table)
     heads-are so = record { is = is }
       where
         is : (b : Book) → SoundBook book b → take (n + 1) table ≡ headLengths b

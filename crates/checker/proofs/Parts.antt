@@ -19,9 +19,9 @@ use Rattle.rule_codes.specs.Promises.{GoalCount}
 use Rattle.book_codes.specs.Question.{SomeSound}
 use Rattle.book_codes.specs.FewRows.{FewRowsOf, FewRows}
 use Rattle.bits.proofs.Laws.{exactly-no}
-use Rattle.witness_check.specs.WayThere.Confirms.{ThereConfirms}
-use Rattle.witness_check.specs.WayBack.Confirms.{BackConfirms}
-use Rattle.checker.specs.Steps.{QuestionGoals, Witness, Confirms}
+use Rattle.witness_check.specs.WayThere.Confirms.{ThereCheckSays}
+use Rattle.witness_check.specs.WayBack.Confirms.{BackCheckSays}
+use Rattle.checker.specs.Steps.{QuestionGoals, Witness, ConfirmSays}
 
 pub goals-are : {book body : List ℕ} {n : ℕ} → body ≡ partAt book 1 → GoalCount body n → QuestionGoals book n
 goals-are {book} part g = record { is = λ b s. g .is (partAt book 0) questionMost (b .question) (rw part (question-reads s)) }
@@ -38,7 +38,7 @@ module _ {book rows : List ℕ} {k : ℕ} {n : ℕ} (goals : QuestionGoals book 
     first-long : (b : Book) (l : List (Subgoal (Term ℕ))) → FewRowsOf book rows k b l → (w : Witness b l witness) → length (w .there) ≡ 2 * n
     first-long b l t w = there-long (admittedOf b) (b .question) (rewriting (b .question) l) (w .there) (w .goes) ∙ ap (λ m. 2 * m) (sym (goals .is b (t .rows-of .sound)))
 
-    pub too-short : length witness < 2 * n → Confirms book rows k witness false
+    pub too-short : length witness < 2 * n → ConfirmSays book rows k witness false
     too-short h = record { exactly = λ b l t. exactly-no (λ w. omega (arith, first-long b l t w, ap length (w .whole), length-append (w .there) (w .back))) }
 
     first-is : (b : Book) (l : List (Subgoal (Term ℕ))) → FewRowsOf book rows k b l → (w : Witness b l witness) → take (2 * n) witness ≡ w .there
@@ -47,11 +47,11 @@ module _ {book rows : List ℕ} {k : ℕ} {n : ℕ} (goals : QuestionGoals book 
     rest-is : (b : Book) (l : List (Subgoal (Term ℕ))) → FewRowsOf book rows k b l → (w : Witness b l witness) → drop (2 * n) witness ≡ w .back
     rest-is b l t w = ap (drop (2 * n)) (w .whole) ∙ drop-at (w .there) (w .back) (2 * n) (first-long b l t w)
 
-    module _ {first : Bool} (there : ThereConfirms book rows k (take (2 * n) witness) first) where
-      pub not-there : first ≡ false → Confirms book rows k witness false
+    module _ {first : Bool} (there : ThereCheckSays book rows k (take (2 * n) witness) first) where
+      pub not-there : first ≡ false → ConfirmSays book rows k witness false
       not-there e = record { exactly = λ b l t. exactly-no (λ w. false≢true (sym e ∙ there .exactly b l t .1 (subst (There (admittedOf b) (b .question) (rewriting (b .question) l)) (sym (first-is b l t w)) (w .goes)))) }
 
-      pub both-parts : first ≡ true → {second : Bool} → BackConfirms book rows k (take (length witness - 2 * n) (drop (2 * n) witness)) second → Confirms book rows k witness second
+      pub both-parts : first ≡ true → {second : Bool} → BackCheckSays book rows k (take (length witness - 2 * n) (drop (2 * n) witness)) second → ConfirmSays book rows k witness second
       both-parts e {second} back = record {
         exactly = λ b l t.
             let f = there .exactly b l t in

@@ -28,33 +28,33 @@ use Rattle.rule_codes.specs.Promises.{BodyCodes}
 use Rattle.rule_codes.proofs.Stores.{front-length}
 use Rattle.book_codes.specs.Question.{SomeSound}
 use Rattle.search_meaning.proofs.AtCodes.{relation-at}
-use Rattle.checker.specs.Lengths.{HeadsAre}
+use Rattle.checker.specs.Lengths.{HeadsNeeds}
 use Rattle.checker.specs.Tests.{LaidOut, SameHeads, AdmitsAll}
-use Rattle.checker.specs.Proposed.{empty, noRows, Proposed, RuleRead}
+use Rattle.checker.specs.Proposed.{empty, noRows, ProposalSays, RowsReadNeeds}
 
 -- nothing is proposed, for whatever reason
-pub proposed-none : {book rewriting : List ℕ} → ((b : Book) → SoundBook book b → (rule : Rule ℕ) → RewritingRule b rule → ruleBytes rule ≡ rewriting → ⊥) → Proposed book rewriting noRows
+pub proposed-none : {book rewriting : List ℕ} → ((b : Book) → SoundBook book b → (rule : Rule ℕ) → RewritingRule b rule → ruleBytes rule ≡ rewriting → ⊥) → ProposalSays book rewriting noRows
 proposed-none never = record { none = λ b s z. record { none = never b s; codes = refl }; some = λ b s h. absurd (omega arith) }
 
-module _ {book rewriting lengths : List ℕ} (heads : HeadsAre book lengths) where
+module _ {book rewriting lengths : List ℕ} (heads : HeadsNeeds book lengths) where
   -- a rewriting is laid out over the lengths
   over-lengths : (b : Book) → SoundBook book b → (rule : Rule ℕ) → RewritingRule b rule → ruleBytes rule ≡ rewriting → Layout lengths questionMost rewriting rule
   over-lengths b s rule is written = rw (heads .is b s, sym written) (laid-out b s rule is)
 
-  pub none-laid : {r : Bool} → LaidOut lengths rewriting r → r ≡ false → Proposed book rewriting noRows
+  pub none-laid : {r : Bool} → LaidOut lengths rewriting r → r ≡ false → ProposalSays book rewriting noRows
   none-laid l f = proposed-none (λ b s rule is written. says-both (l .exactly .1 (rule, over-lengths b s rule is written)) f)
 
   module _ {part : List ℕ} (second : part ≡ partAt book 1) {q : Bool} (h : SameHeads rewriting part q) where
     same-head : (b : Book) → SoundBook book b → (rule : Rule ℕ) → Layout lengths questionMost rewriting rule → (q ≡ true) ↔ (rule .head ≡ b .question .head)
     same-head b s rule l = h .exactly lengths questionMost rule l (partAt book 0) questionMost (b .question) (rw second (question-reads s))
 
-    pub none-headed : q ≡ false → Proposed book rewriting noRows
+    pub none-headed : q ≡ false → ProposalSays book rewriting noRows
     none-headed f = proposed-none (λ b s rule is written. says-both (same-head b s rule (over-lengths b s rule is written) .1 (is .head)) f)
 
-    pub rows-given : SomeSound book → {r : Bool} → LaidOut lengths rewriting r → r ≡ true → q ≡ true → RuleRead book rewriting lengths
+    pub rows-given : SomeSound book → {r : Bool} → LaidOut lengths rewriting r → r ≡ true → q ≡ true → RowsReadNeeds book rewriting lengths
     rows-given w l t u = let o = l .exactly .0 t in record { sound = w; heads = heads; rule = o .0; layout = o .1; same = λ b s. same-head b s (o .0) (o .1) .0 u }
 
-module _ {book rewriting lengths : List ℕ} (g : RuleRead book rewriting lengths) where
+module _ {book rewriting lengths : List ℕ} (g : RowsReadNeeds book rewriting lengths) where
   pub rows-room : (each area : ℕ) → ((n : ℕ) → n ≤ 12 → each * n ≤ area) → LaidFor lengths rewriting each area
   rows-room each area room = record { most = questionMost; rule = g .rule; layout = g .layout; room = room (length (g .rule .body)) (g .layout .within .few) }
 
@@ -92,7 +92,7 @@ module _ {book rewriting lengths : List ℕ} (g : RuleRead book rewriting length
               long = g .layout .within .fit x m .long ∙ ap (λ l. getD l (x .relation) 0) (g .heads .is b s) ∙ width-is (b .need) (b .summaries) (x .relation) (a .0) admitted .2;
             }
 
-        pub rows-proposed : Proposed book rewriting record { count = n; codes = codes }
+        pub rows-proposed : ProposalSays book rewriting record { count = n; codes = codes }
         rows-proposed = record {
           none = λ b s z. absurd (let some = g .layout .within .some in omega (arith, count-is));
           some = λ b s h. record {
@@ -105,7 +105,7 @@ module _ {book rewriting lengths : List ℕ} (g : RuleRead book rewriting length
         }
 
       -- one row is over no admitted summary: no rule with these bytes is a rewriting
-      pub rows-refused : r ≡ false → Proposed book rewriting noRows
+      pub rows-refused : r ≡ false → ProposalSays book rewriting noRows
       rows-refused f = proposed-none never
         where
           never : (b : Book) → SoundBook book b → (rule : Rule ℕ) → RewritingRule b rule → ruleBytes rule ≡ rewriting → ⊥

@@ -24,11 +24,11 @@ use Rattle.rule_codes.proofs.Stores.{front-again}
 use Rattle.book_codes.specs.Question.{SomeSound}
 use Rattle.book_codes.specs.FewRows.{FewRowsOf, FewRows}
 use Rattle.bits.proofs.Laws.{exactly-no}
-use Rattle.checker.specs.Proposed.{IsProposed, Proposed, empty}
+use Rattle.checker.specs.Proposed.{IsProposed, ProposalSays, empty}
 use Rattle.checker.specs.declared.proposal.Proposal.{Proposal}
-use Rattle.checker.specs.Steps.{Witness, Confirms}
+use Rattle.checker.specs.Steps.{Witness, ConfirmSays}
 
-module _ {book bytes : List ℕ} {r : Proposal} (p : Proposed book bytes r) where
+module _ {book bytes : List ℕ} {r : Proposal} (p : ProposalSays book bytes r) where
   -- no rule: nothing is true of it
   pub no-rule : {witness : List ℕ} → r .count ≡ 0 → Checks book bytes witness false
   no-rule e = record { exactly = exactly-no (λ t. p .none (t .value) (t .sound) e .none (t .rule) (t .is) (t .written)) }
@@ -62,7 +62,7 @@ module _ {book bytes : List ℕ} {r : Proposal} (p : Proposed book bytes r) wher
     as-rewriting : it .rule ≡ rewriting q (it .rule .body)
     as-rewriting = λ i. record { head = it .is .head i; body = it .rule .body }
 
-    module _ {witness : List ℕ} {answer : Bool} (c : Confirms book (r .codes) (r .count) witness answer) where
+    module _ {witness : List ℕ} {answer : Bool} (c : ConfirmSays book (r .codes) (r .count) witness answer) where
       truth : Witness b (it .rule .body) witness → Truth book bytes witness
       truth y = record {
         value = b;

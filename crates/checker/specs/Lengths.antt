@@ -16,5 +16,5 @@ pub record HeadsTo (book : List ℕ) (k : ℕ) (table : List ℕ) : Type 0 where
   pub is : (b : Book) → SoundBook book b → (i : ℕ) → i ≤ k → getD table i 0 ≡ getD (headLengths b) i 0
 
 -- Those of all summaries, and nothing behind them.
-pub record HeadsAre (book lengths : List ℕ) : Type 0 where
+pub record HeadsNeeds (book lengths : List ℕ) : Type 0 where
   pub is : (b : Book) → SoundBook book b → lengths ≡ headLengths b

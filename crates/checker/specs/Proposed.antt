@@ -11,7 +11,7 @@ use Rattle.spec.specs.Truth.{RewritingRule}
 use Rattle.spec.specs.Given.{atFront}
 use Rattle.codes.specs.Code.{termCode, codesOf}
 use Rattle.book_codes.specs.Question.{SomeSound}
-use Rattle.checker.specs.Lengths.{HeadsAre}
+use Rattle.checker.specs.Lengths.{HeadsNeeds}
 use Rattle.checker.specs.declared.proposal.Proposal.{Proposal}
 
 -- so many codes for twelve rows, zeros
@@ -36,14 +36,14 @@ module _ (b : Book) (rewriting : List ℕ) (r : Proposal) where
     pub codes : r .codes ≡ atFront (codesOf termCode (rule .body)) empty
 
 -- Of every value of the book: no rows exactly if the bytes are no such rule, else its rows.
-pub record Proposed (book rewriting : List ℕ) (r : Proposal) : Type 0 where
+pub record ProposalSays (book rewriting : List ℕ) (r : Proposal) : Type 0 where
   pub none : (b : Book) → SoundBook book b → r .count ≡ 0 → NotProposed b rewriting r
   pub some : (b : Book) → SoundBook book b → 1 ≤ r .count → IsProposed b rewriting r
 
 -- A sound book, and the bytes of a rule that has its question's head, laid out over the lengths of its summaries' heads.
-pub record RuleRead (book rewriting lengths : List ℕ) : Type 0 where
+pub record RowsReadNeeds (book rewriting lengths : List ℕ) : Type 0 where
   pub sound : SomeSound book
-  pub heads : HeadsAre book lengths
+  pub heads : HeadsNeeds book lengths
   pub rule : Rule ℕ
   pub layout : Layout lengths questionMost rewriting rule
   pub same : (b : Book) → SoundBook book b → rule .head ≡ b .question .head

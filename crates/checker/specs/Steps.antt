@@ -23,5 +23,5 @@ pub record Witness (b : Book) (l : List (Subgoal (Term ℕ))) (witness : List �
   pub goes : There (admittedOf b) (b .question) (rewriting (b .question) l) there
   pub returns : Back (admittedOf b) (b .question) (rewriting (b .question) l) back
 
-pub record Confirms (book rows : List ℕ) (k : ℕ) (witness : List ℕ) (answer : Bool) : Type 0 where
+pub record ConfirmSays (book rows : List ℕ) (k : ℕ) (witness : List ℕ) (answer : Bool) : Type 0 where
   pub exactly : (b : Book) (l : List (Subgoal (Term ℕ))) → FewRowsOf book rows k b l → (answer ≡ true) ↔ Witness b l witness

@@ -2,7 +2,7 @@
 ghost use Rattle.book_codes.specs.Question.{SomeSound};
 ghost use Rattle.book_codes.specs.FewRows.{FewRows};
 ghost use Rattle.spec.specs.Truth.{Checks};
-ghost use Rattle.checker.specs.Steps.{QuestionGoals, Confirms};
+ghost use Rattle.checker.specs.Steps.{QuestionGoals, ConfirmSays};
 
 mod head_lengths; // how long the summaries' heads are
 mod proposal; // the rewriting that is given, read as rows
@@ -27,7 +27,7 @@ fn question_goals(book: &[u8]) -> usize
 // The witness of k rows: "per question subgoal, two bytes", and behind them the way back.
 fn confirms(book: &[u8], rows: &[u64], k: usize, witness: &[u8]) -> bool
     requires { ⌜ FewRows (now book) (now rows) k ⌝ }
-    ensures { λ r. ⌜ Confirms (now (book .entry)) (now (rows .entry)) k (now (witness .entry)) r ⌝ }
+    ensures { λ r. ⌜ ConfirmSays (now (book .entry)) (now (rows .entry)) k (now (witness .entry)) r ⌝ }
 {
     let middle = 2 * question_goals(book);
     if witness.len() < middle {

@@ -1,8 +1,8 @@
 // The rewriting that the checker is given, read as rows over the admitted summaries of a sound book.
 ghost use mathlib.Core.Path.{_≡_};
 ghost use Rattle.book_codes.specs.Question.{SomeSound};
-ghost use Rattle.checker.specs.Proposed.{noRows, RuleRead, Proposed};
-ghost use Rattle.checker.specs.Lengths.{HeadsAre};
+ghost use Rattle.checker.specs.Proposed.{noRows, RowsReadNeeds, ProposalSays};
+ghost use Rattle.checker.specs.Lengths.{HeadsNeeds};
 use crate::head_lengths::head_lengths;
 use crate::tests::all_admitted;
 use crate::tests::is_laid_out;
@@ -30,8 +30,8 @@ fn none() -> Proposal
 
 // The rows of a rule that has the question's head: none if one of them is over a summary that is left out, or over none.
 fn read_rows(book: &[u8], rewriting: &[u8], lengths: &[u8]) -> Proposal
-    requires { ⌜ RuleRead (now book) (now rewriting) (now lengths) ⌝ }
-    ensures { λ r. ⌜ Proposed (now (book .entry)) (now (rewriting .entry)) r ⌝ }
+    requires { ⌜ RowsReadNeeds (now book) (now rewriting) (now lengths) ⌝ }
+    ensures { λ r. ⌜ ProposalSays (now (book .entry)) (now (rewriting .entry)) r ⌝ }
 {
     let mut codes = [0u64; QUESTION_CODES];
     let mut widths = [0u8; QUESTION_GOALS];
@@ -44,8 +44,8 @@ fn read_rows(book: &[u8], rewriting: &[u8], lengths: &[u8]) -> Proposal
 
 // "one whole rule by the layout with 1 to 12 subgoals over admitted summaries and the question's head": a summary stands where a relation would, as wide as its head.
 fn propose_over(book: &[u8], rewriting: &[u8], lengths: &[u8]) -> Proposal
-    requires { ⌜ SomeSound (now book) × HeadsAre (now book) (now lengths) ⌝ }
-    ensures { λ r. ⌜ Proposed (now (book .entry)) (now (rewriting .entry)) r ⌝ }
+    requires { ⌜ SomeSound (now book) × HeadsNeeds (now book) (now lengths) ⌝ }
+    ensures { λ r. ⌜ ProposalSays (now (book .entry)) (now (rewriting .entry)) r ⌝ }
 {
     if !is_laid_out(rewriting, lengths) {
         return none();
@@ -59,7 +59,7 @@ fn propose_over(book: &[u8], rewriting: &[u8], lengths: &[u8]) -> Proposal
 // The rows of the rewriting; none exactly if it is no rule over the book's admitted summaries that has the question's head.
 pub fn propose(book: &[u8], rewriting: &[u8]) -> Proposal
     requires { ⌜ SomeSound (now book) ⌝ }
-    ensures { λ r. ⌜ Proposed (now (book .entry)) (now (rewriting .entry)) r ⌝ }
+    ensures { λ r. ⌜ ProposalSays (now (book .entry)) (now (rewriting .entry)) r ⌝ }
 {
     let table = head_lengths(book);
     let n = count_of(book);

@@ -19,7 +19,7 @@ use Rattle.bits.proofs.Common.{meets-some}
 use Rattle.task.specs.Task.{Task}
 use Rattle.task.specs.Mapped.{Feasible}
 use Rattle.placing.specs.FirstPlaces.{Enough}
-use Rattle.first_shortest.specs.Pruning.{Table, PosedWith, Spared, Pruned}
+use Rattle.first_shortest.specs.Pruning.{Table, FeasibilityNeeds, Spared, Pruned}
 use Rattle.first_shortest.proofs.Tests.{feasible-can}
 
 -- what is spared
@@ -56,7 +56,7 @@ module _ {dom : List ℕ} {n used may kept row : ℕ} (p : Pruned dom n used may
 
 -- The search over fewer rows answers for all.
 pub pruned-enough : {t : Task} {b : List ℕ} {n : ℕ} {dom : List ℕ} {used may fewer left : ℕ} {a : Bool}
-    → PosedWith t b n dom → Pruned dom n used may fewer → Enough t b used fewer left a → Enough t b used may left a
+    → FeasibilityNeeds t b n dom → Pruned dom n used may fewer → Enough t b used fewer left a → Enough t b used may left a
 pruned-enough {t} {b} {n} {dom} {used} {may} {fewer} {left} o p e = record { exactly = (λ h. f .1 (s .1 (g .0 (e .exactly .0 h))), λ h. e .exactly .1 (g .1 (s .0 (f .0 h)))) }
   where
     f : Feasible t b used may left ↔ CanBy (o .task .summaries) (o .task .question) (o .task .rows) (Has used) (Has may) left

@@ -25,7 +25,7 @@ use Rattle.task.specs.Task.{Task}
 use Rattle.task.specs.Mapped.{Feasible}
 use Rattle.placing.specs.FirstPlaces.{Enough}
 use Rattle.first_shortest.specs.Posed.{PosedBy, Posed}
-use Rattle.first_shortest.specs.Chosen.{Found, NotFound, ChosenBy, Chooses}
+use Rattle.first_shortest.specs.Chosen.{Found, NotFound, ChosenBy, ChoiceSays}
 use Rattle.first_shortest.specs.Passing.{nothing, found, starting, taking, passing, Fewest, Tried, UnderwayBy, Underway}
 use Rattle.first_shortest.specs.declared.Chosen.{Chosen}
 use Rattle.first_shortest.specs.declared.Pass.{Pass}
@@ -98,7 +98,7 @@ module _ {t : Task} {b : List ℕ} {n k : ℕ} (f : Fewest t b n k) where
   }
 
   -- 12 cannot do
-  pub chooses-none : 13 ≤ k → Chooses t b n nothing
+  pub chooses-none : 13 ≤ k → ChoiceSays t b n nothing
   unfolding nothing
   chooses-none h = record {
     by = λ s q rows p. record {
@@ -126,7 +126,7 @@ module _ {t : Task} {b : List ℕ} {n row : ℕ} {p : Pass} (w : Underway t b n 
   underway-within o h = omega (arith, going-within (o .summaries) (o .question) (o .rows) (w .by _ _ _ (o .by) .going) h, o .by .count)
 
   -- The end: the rows taken are the answer.
-  pub chooses-found : p .left ≤ 0 → Chooses t b n (found p)
+  pub chooses-found : p .left ≤ 0 → ChoiceSays t b n (found p)
   unfolding found
   chooses-found h = record {
     by = λ s q rows o. record {

@@ -16,7 +16,7 @@ use Rattle.spec.proofs.Lists.At.{rising-getD}
 use Rattle.choice_theory.specs.Numbered.{RowList, nothing, rowAt, rowsAt}
 use Rattle.task.specs.Task.{Task}
 use Rattle.first_shortest.specs.Posed.{Posed}
-use Rattle.first_shortest.specs.Chosen.{numbersOf, Found, NotFound, ChosenBy, Chooses}
+use Rattle.first_shortest.specs.Chosen.{numbersOf, Found, NotFound, ChosenBy, ChoiceSays}
 use Rattle.first_shortest.specs.declared.Chosen.{Chosen}
 
 -- rows that ascend are told by their numbers
@@ -63,5 +63,5 @@ module _ {s : Summaries} {q : Rule ℕ} {rows : RowList} (rising : Rising RowBef
       go false true e f = absurd (x .none e .none _ (y .found f .answer .holds))
       go false false e f = same (e ∙ sym f) (x .none e .count ∙ sym (y .none f .count), x .none e .rest ∙ sym (y .none f .rest))
 
-pub chosen-once : {t : Task} {b : List ℕ} {n : ℕ} (p : Posed t b n) (r o : Chosen) → Chooses t b n r → Chooses t b n o → r ≡ o
+pub chosen-once : {t : Task} {b : List ℕ} {n : ℕ} (p : Posed t b n) (r o : Chosen) → ChoiceSays t b n r → ChoiceSays t b n o → r ≡ o
 chosen-once p r o c d = chosen-by-once (p .by .all .rising) r o (c .by _ _ _ (p .by)) (d .by _ _ _ (p .by))

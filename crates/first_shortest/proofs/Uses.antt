@@ -16,7 +16,7 @@ use Rattle.placing.specs.FirstPlaces.{FirstPlaces}
 use Rattle.placing.specs.declared.Places.{Places}
 use Rattle.search_meaning.specs.Coded.{Bound}
 use Rattle.search_meaning.proofs.Dominance.{use-sized, dominates-is}
-use Rattle.first_shortest.specs.Pruning.{UsesBy, Uses, TellsDominance}
+use Rattle.first_shortest.specs.Pruning.{UsesBy, DominanceNeeds, DominanceSays}
 
 module _ {s : Summaries} {rows : RowList} {d r : ℕ} {t : Task} (p : UsesBy s rows d r t) where
   sized-by : Sized t
@@ -30,10 +30,10 @@ module _ {s : Summaries} {rows : RowList} {d r : ℕ} {t : Task} (p : UsesBy s r
       free : (x : ℕ) → Bound (replicate 64 0) x → ⊥
       free x h = h (zero-at 64 x)
 
-pub uses-sized : {t : Task} → Uses t → Sized t
+pub uses-sized : {t : Task} → DominanceNeeds t → Sized t
 uses-sized u = sized-by (u .by)
 
-pub tells : {t : Task} (r : Places) → FirstPlaces t (replicate 64 0) r → TellsDominance t (r .ok)
+pub tells : {t : Task} (r : Places) → FirstPlaces t (replicate 64 0) r → DominanceSays t (r .ok)
 tells {t} o f = record { exactly = λ s rows d r p. (λ e. let l = f .found e in mapped-dominates p .0 (l .0, l .2 .holds), λ h. go (o .ok) refl (mapped-dominates p .1 h)) }
   where
     go : (a : Bool) → o .ok ≡ a → ((l : List ℕ) × Mapped t (replicate 64 0) l) → o .ok ≡ true
@@ -41,5 +41,5 @@ tells {t} o f = record { exactly = λ s rows d r p. (λ e. let l = f .found e in
     go false e m = absurd (f .none e .1 (m .0) (m .1))
 
 -- two answers that meet the promise are the same
-pub dominates-once : {t : Task} → Uses t → (a b : Bool) → TellsDominance t a → TellsDominance t b → a ≡ b
+pub dominates-once : {t : Task} → DominanceNeeds t → (a b : Bool) → DominanceSays t a → DominanceSays t b → a ≡ b
 dominates-once u a b f g = exactly-once a b (f .exactly _ _ _ _ (u .by)) (g .exactly _ _ _ _ (u .by))

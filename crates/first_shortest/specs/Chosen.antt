@@ -35,5 +35,5 @@ pub record ChosenBy (s : Summaries) (q : Rule ℕ) (rows : RowList) (r : Chosen)
   pub none : r .ok ≡ false → NotFound s q r
 
 -- Of every question whose task it is.
-pub record Chooses (t : Task) (b : List ℕ) (n : ℕ) (r : Chosen) : Type 0 where
+pub record ChoiceSays (t : Task) (b : List ℕ) (n : ℕ) (r : Chosen) : Type 0 where
   pub by : (s : Summaries) (q : Rule ℕ) (rows : RowList) → PosedBy s q rows t b n → ChosenBy s q rows r

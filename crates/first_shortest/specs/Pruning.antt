@@ -23,7 +23,7 @@ pub record Table (s : Summaries) (rows : RowList) (n : ℕ) (dom : List ℕ) : T
   pub sound : (r d : ℕ) → r < n → Has (getD dom r 0) d → Dominates s rows d r
 
 -- The task of some question, with a table of its rows.
-pub record PosedWith (t : Task) (b : List ℕ) (n : ℕ) (dom : List ℕ) : Type 0 where
+pub record FeasibilityNeeds (t : Task) (b : List ℕ) (n : ℕ) (dom : List ℕ) : Type 0 where
   pub task : Posed t b n
   pub table : Table (task .summaries) (task .rows) n dom
 
@@ -51,12 +51,12 @@ pub record UsesBy (s : Summaries) (rows : RowList) (d r : ℕ) (t : Task) : Type
   pub owned : length (t .own) ≡ length (inPlace s d (rowAt rows d))
   pub sets : (k : ℕ) → getD (t .own) k 0 < 64
 
-pub record Uses (t : Task) : Type 0 where
+pub record DominanceNeeds (t : Task) : Type 0 where
   pub summaries : Summaries
   pub rows : RowList
   pub over : ℕ
   pub under : ℕ
   pub by : UsesBy summaries rows over under t
 
-pub record TellsDominance (t : Task) (answer : Bool) : Type 0 where
+pub record DominanceSays (t : Task) (answer : Bool) : Type 0 where
   pub exactly : (s : Summaries) (rows : RowList) (d r : ℕ) → UsesBy s rows d r t → (answer ≡ true) ↔ Dominates s rows d r

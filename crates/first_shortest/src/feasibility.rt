@@ -2,7 +2,7 @@
 ghost use Prim.Native.Nat.{_<_, _≤_};
 ghost use Rattle.task.specs.Task.{posed};
 ghost use Rattle.placing.specs.FirstPlaces.{Enough};
-ghost use Rattle.first_shortest.specs.Pruning.{Spared, Pruned, PosedWith, Uses, TellsDominance};
+ghost use Rattle.first_shortest.specs.Pruning.{Spared, Pruned, FeasibilityNeeds, DominanceNeeds, DominanceSays};
 use codes::SLOTS;
 use spec::MOST_ROWS;
 
@@ -48,7 +48,7 @@ pub fn can(
     may: u64,
     left: usize,
 ) -> bool
-    requires { ⌜ PosedWith (posed (now source) (now widths) (now lasts) (now target) (now own)) b n (now dom) ⌝ }
+    requires { ⌜ FeasibilityNeeds (posed (now source) (now widths) (now lasts) (now target) (now own)) b n (now dom) ⌝ }
     ensures { λ r. ⌜ Enough (posed (now (source .entry)) (now (widths .entry)) (now (lasts .entry)) (now (target .entry)) (now (own .entry))) b used may left r ⌝ }
 {
     let kept = pruned(dom, n, used, may);
@@ -57,8 +57,8 @@ pub fn can(
 
 // Whether one row dominates another: the source is the other's use, the target its own.
 pub fn dominates(source: &[u64], widths: &[u8], lasts: &[u8], target: &[u64], own: &[u8]) -> bool
-    requires { ⌜ Uses (posed (now source) (now widths) (now lasts) (now target) (now own)) ⌝ }
-    ensures { λ r. ⌜ TellsDominance (posed (now (source .entry)) (now (widths .entry)) (now (lasts .entry)) (now (target .entry)) (now (own .entry))) r ⌝ }
+    requires { ⌜ DominanceNeeds (posed (now source) (now widths) (now lasts) (now target) (now own)) ⌝ }
+    ensures { λ r. ⌜ DominanceSays (posed (now (source .entry)) (now (widths .entry)) (now (lasts .entry)) (now (target .entry)) (now (own .entry))) r ⌝ }
 {
     let r = placing::first_places(source, widths, lasts, target, own, [0u64; SLOTS]);
     r.ok

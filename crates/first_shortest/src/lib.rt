@@ -2,8 +2,8 @@
 ghost use mathlib.Core.Path.{_≡_};
 ghost use Prim.Native.Nat.{_+_, _<_, _≤_};
 ghost use Rattle.task.specs.Task.{posed};
-ghost use Rattle.first_shortest.specs.Pruning.{PosedWith};
-ghost use Rattle.first_shortest.specs.Chosen.{Chooses};
+ghost use Rattle.first_shortest.specs.Pruning.{FeasibilityNeeds};
+ghost use Rattle.first_shortest.specs.Chosen.{ChoiceSays};
 ghost use Rattle.first_shortest.specs.Passing.{nothing, found, starting, taking, passing, Fewest, Tried, Underway};
 
 pub mod feasibility; // whether rows can do; whether a row dominates another
@@ -109,7 +109,7 @@ fn fewest(
     dom: &[u64; MOST_ROWS],
     n: usize,
 ) -> usize
-    requires { ⌜ PosedWith (posed (now source) (now widths) (now lasts) (now target) (now own)) b n (now dom) ⌝ }
+    requires { ⌜ FeasibilityNeeds (posed (now source) (now widths) (now lasts) (now target) (now own)) b n (now dom) ⌝ }
     ensures { λ r. ⌜ Fewest (posed (now (source .entry)) (now (widths .entry)) (now (lasts .entry)) (now (target .entry)) (now (own .entry))) b n r ⌝ }
 {
     let all = bits::below(n as u32);
@@ -151,7 +151,7 @@ fn one_row(
     row: usize,
     p: Pass,
 ) -> Pass
-    requires { ⌜ PosedWith (posed (now source) (now widths) (now lasts) (now target) (now own)) b n (now dom) ⌝ }
+    requires { ⌜ FeasibilityNeeds (posed (now source) (now widths) (now lasts) (now target) (now own)) b n (now dom) ⌝ }
     requires { ⌜ row < n ⌝ }
     requires { ⌜ p .k < 12 ⌝ }
     requires { ⌜ 0 < p .left ⌝ }
@@ -190,10 +190,10 @@ fn first_rows(
     n: usize,
     k: usize,
 ) -> Chosen
-    requires { ⌜ PosedWith (posed (now source) (now widths) (now lasts) (now target) (now own)) b n (now dom) ⌝ }
+    requires { ⌜ FeasibilityNeeds (posed (now source) (now widths) (now lasts) (now target) (now own)) b n (now dom) ⌝ }
     requires { ⌜ Fewest (posed (now source) (now widths) (now lasts) (now target) (now own)) b n k ⌝ }
     requires { ⌜ k < 13 ⌝ }
-    ensures { λ r. ⌜ Chooses (posed (now (source .entry)) (now (widths .entry)) (now (lasts .entry)) (now (target .entry)) (now (own .entry))) b n r ⌝ }
+    ensures { λ r. ⌜ ChoiceSays (posed (now (source .entry)) (now (widths .entry)) (now (lasts .entry)) (now (target .entry)) (now (own .entry))) b n r ⌝ }
 {
     let mut p = start(n, k);
     let mut row: usize = 0;
@@ -216,8 +216,8 @@ pub fn choose(
     dom: &[u64; MOST_ROWS],
     n: usize,
 ) -> Chosen
-    requires { ⌜ PosedWith (posed (now source) (now widths) (now lasts) (now target) (now own)) b n (now dom) ⌝ }
-    ensures { λ r. ⌜ Chooses (posed (now (source .entry)) (now (widths .entry)) (now (lasts .entry)) (now (target .entry)) (now (own .entry))) b n r ⌝ }
+    requires { ⌜ FeasibilityNeeds (posed (now source) (now widths) (now lasts) (now target) (now own)) b n (now dom) ⌝ }
+    ensures { λ r. ⌜ ChoiceSays (posed (now (source .entry)) (now (widths .entry)) (now (lasts .entry)) (now (target .entry)) (now (own .entry))) b n r ⌝ }
 {
     let k = fewest(source, widths, lasts, target, own, b, dom, n);
     if k < TOO_FEW {

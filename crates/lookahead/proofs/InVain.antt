@@ -19,7 +19,7 @@ use Rattle.task.proofs.Slots.{value-code, stood-code, stood-value}
 use Rattle.lookahead.specs.Taking.{Affords, Open}
 use Rattle.lookahead.specs.Failure.{AgreesOn, Failed}
 use Rattle.lookahead.specs.Outlook.{UseEnd, SuitsTarget, HasTarget, Readable, Offers, SlotOf, SlotsOf, memberOf, Steady, Wanting, Most, noWants, fairly, vainly}
-use Rattle.lookahead.specs.Seen.{Seen, Outlooks}
+use Rattle.lookahead.specs.Seen.{Seen, LookSays}
 use Rattle.lookahead.specs.declared.reasons.Rows.{Rows}
 use Rattle.lookahead.specs.declared.Wants.{Wants}
 use Rattle.lookahead.proofs.Taken.{affords-rows}
@@ -97,10 +97,10 @@ module _ (p : Task) (at : ℕ) (b : List ℕ) (rows : Rows) where
   pub wanted-next : (w : Wants) (i : ℕ) → Wanted p at b rows w i → Wanted p at b rows w (i + 1)
   wanted-next w i q = record { few = omega (arith, q .few); small = q .small; long = q .long; below = q .below; taken = q .taken }
 
-  pub fair-said : Seen p at b rows fairly → Outlooks p at b rows fairly
+  pub fair-said : Seen p at b rows fairly → LookSays p at b rows fairly
   fair-said s = record { seen = s; vain = λ e. absurd (false≢true e) }
 
-  pub vain-said : (slots : ℕ) (short : Bool) → Seen p at b rows (vainly slots short) → Failed p at b rows record { slots = slots; short = short } → Outlooks p at b rows (vainly slots short)
+  pub vain-said : (slots : ℕ) (short : Bool) → Seen p at b rows (vainly slots short) → Failed p at b rows record { slots = slots; short = short } → LookSays p at b rows (vainly slots short)
   vain-said slots short s f = record { seen = s; vain = λ e. f }
 
 module _ (p : Task) (z : Sized p) (at end : ℕ) (u : UseEnd (p .lasts) at end) where

@@ -54,7 +54,7 @@ pub data Seen (p : Task) (at : ℕ) (b : List ℕ) (rows : Rows) : Outlook → T
   together : (rows .may ≡ 0 → ⊥) → (slots : ℕ) → ((i : ℕ) → NoRowFor p at b rows i → ⊥) → TooManyWant p at b rows → ((x : ℕ) → Has slots x ↔ WantedSlot p at b rows x) → Seen p at b rows (vainly slots true)
   fair : (rows .may ≡ 0 → ⊥) → ((i : ℕ) → NoRowFor p at b rows i → ⊥) → (TooManyWant p at b rows → ⊥) → Seen p at b rows fairly
 
-pub record Outlooks (p : Task) (at : ℕ) (b : List ℕ) (rows : Rows) (r : Outlook) : Type 0 where
+pub record LookSays (p : Task) (at : ℕ) (b : List ℕ) (rows : Rows) (r : Outlook) : Type 0 where
   pub seen : Seen p at b rows r
   -- what is seen to be in vain fails, for the reasons told
   pub vain : r .vain ≡ true → Failed p at b rows (r .why)

@@ -8,7 +8,7 @@ ghost use Prim.Native.Nat.{_*_, _<_, _≤_, max};
 ghost use lib.ListN.{length};
 ghost use Rattle.task.specs.Task.{posed, Sized};
 ghost use Rattle.lookahead.specs.Outlook.{UseEnd, Clashes, Readable, Offered, Offers, SlotsOf, Steady, Wanting, Most, fairly, vainly, noWants, memberOf};
-ghost use Rattle.lookahead.specs.Seen.{Outlooks};
+ghost use Rattle.lookahead.specs.Seen.{LookSays};
 
 pub mod reasons; // rows that are entered, reasons of a failure
 
@@ -232,7 +232,7 @@ pub fn look(
     rows: Rows,
 ) -> Outlook
     requires { ⌜ Sized (posed (now source) (now widths) (now lasts) (now target) (now own)) ⌝ }
-    ensures { λ r. ⌜ Outlooks (posed (now (source .entry)) (now (widths .entry)) (now (lasts .entry)) (now (target .entry)) (now (own .entry))) at (now (b .entry)) rows r ⌝ }
+    ensures { λ r. ⌜ LookSays (posed (now (source .entry)) (now (widths .entry)) (now (lasts .entry)) (now (target .entry)) (now (own .entry))) at (now (b .entry)) rows r ⌝ }
 {
     if rows.may == 0 {
         return fair();

@@ -18,7 +18,7 @@ use Rattle.task.proofs.Onward.{step, after, onward}
 use Rattle.lookahead.specs.Taking.{Enters, leftAfter, Affords, Open}
 use Rattle.lookahead.specs.Failure.{AgreesOn, Failed}
 use Rattle.lookahead.specs.Steps.{Entering, Hopeless, Settled, entering, seeing}
-use Rattle.lookahead.specs.Seen.{Outlooks}
+use Rattle.lookahead.specs.Seen.{LookSays}
 use Rattle.lookahead.specs.declared.reasons.Reasons.{Reasons}
 use Rattle.lookahead.specs.declared.reasons.Rows.{Rows}
 use Rattle.lookahead.specs.declared.reasons.Entered.{Entered}
@@ -117,7 +117,7 @@ pub answer-below : (p : Task) (at : ℕ) (h : List ℕ) (rows : Rows) (k : ℕ) 
 answer-below p at h rows k e n r a = rw (add-one at, n .after) at a
 
 -- seen to be in vain
-pub answer-vain : (p : Task) (at : ℕ) (b : List ℕ) (rows : Rows) (o : Outlook) → Outlooks p at b rows o → o .vain ≡ true → SearchSays p at b rows (failed (o .why))
+pub answer-vain : (p : Task) (at : ℕ) (b : List ℕ) (rows : Rows) (o : Outlook) → LookSays p at b rows o → o .vain ≡ true → SearchSays p at b rows (failed (o .why))
 answer-vain p at b rows o s v = record { found = λ e. absurd (false≢true e); none = λ e. s .vain v }
 
 -- nothing is left to place

@@ -18,15 +18,15 @@ use Rattle.spec.specs.Rewriting.{TurnedDown}
 use Rattle.spec.proofs.Decided.Rows.{allRows}
 use Rattle.outcomes.proofs.Grants.{value-safe}
 use Rattle.outcomes.proofs.Total.{fault-9}
-use Rattle.row_list.specs.Listing.{Sought, AllStand, RowsOver, ListedSays, ListSays}
+use Rattle.row_list.specs.Listing.{ListNeeds, AllStand, RowsOver, ListedSays, ListSays}
 use Rattle.row_list.specs.declared.RowsListed.{RowsListed}
 use Rattle.row_list.specs.declared.RowsListed.the-variants.{All, Over}
 use Rattle.first_shortest.specs.Chosen.{ChosenBy, Found, NotFound}
 use Rattle.first_shortest.specs.declared.Chosen.{Chosen}
-use Rattle.row_choice.specs.Asked.{ChoiceNeedsOf, ChoiceNeeds, RowsChosen}
-use Rattle.answer.specs.Steps.{ChosenPut}
+use Rattle.row_choice.specs.Asked.{ChoiceNeedsOf, ChoiceNeeds, RowChoiceSays}
+use Rattle.answer.specs.Steps.{AnswerNeeds}
 use Rattle.answer.proofs.ChosenLaws.{few-rows}
-use Rattle.rewriter.specs.Steps.{Sounds, Rowed}
+use Rattle.rewriter.specs.Steps.{SoundNeeds, ListedNeeds}
 
 pub turned-down : {book a w : List ℕ} {r : Reason} → RewriterRefusal book (length a) (length w) r → TurnedDown book a a w w r
 turned-down r = record { refused = r; answer-stays = refl; witness-stays = refl }
@@ -50,26 +50,26 @@ roomy a w f = ⊎-elim (λ h. omega arith) (λ h. omega arith) f
 pub not-read : {book : List ℕ} {answer witness : ℕ} {r : Reason} → 534 ≤ answer → 120 ≤ witness → Refusal book r → RewriterRefusal book answer witness r
 not-read a w r = read (roomy a w) r
 
-module _ {book : List ℕ} {answer witness : ℕ} (s : Sounds book answer witness) where
-  pub sought : {area : ℕ} → 576 ≤ area → Sought book area
+module _ {book : List ℕ} {answer witness : ℕ} (s : SoundNeeds book answer witness) where
+  pub sought : {area : ℕ} → 576 ≤ area → ListNeeds book area
   sought h = record { value = s .value; sound = s .sound; room = omega arith }
 
   pub over-64 : {before after : List ℕ} → RowsOver (admittedOf (s .value)) (s .value .question) before after → RewriterRefusal book answer witness (ofBook 9)
   over-64 t = nine (s .room) (s .value) (s .sound) (fault-9 (admittedOf (s .value)) (s .value .question) (value-safe (s .sound .value)) .1 (t .many))
 
-  pub rowed : {before after : List ℕ} {n : ℕ} → AllStand (admittedOf (s .value)) (s .value .question) before after n → Rowed book after n answer witness
+  pub rowed : {before after : List ℕ} {n : ℕ} → AllStand (admittedOf (s .value)) (s .value .question) before after n → ListedNeeds book after n answer witness
   rowed {before} {n = n} t = record { asked = record { value = s .value; is = record { sound = s .sound; count = t .count; few = t .few; rest = drop (9 * n) before; codes = t .codes } }; room = s .room }
 
-module _ {book rows : List ℕ} {n answer witness : ℕ} (w : Rowed book rows n answer witness) {chosen : Chosen} (c : RowsChosen book rows n chosen) where
-  pub chosen-put : chosen .ok ≡ true → ChosenPut book rows n chosen answer witness
+module _ {book rows : List ℕ} {n answer witness : ℕ} (w : ListedNeeds book rows n answer witness) {chosen : Chosen} (c : RowChoiceSays book rows n chosen) where
+  pub chosen-put : chosen .ok ≡ true → AnswerNeeds book rows n chosen answer witness
   chosen-put e = record { asked = w .asked; found = c .by (w .asked .value) (w .asked .is) .found e; room = w .room }
 
   pub none-do : chosen .ok ≡ false → RewriterRefusal book answer witness (ofBook 10)
   none-do e = ten (w .room) (w .asked .value) (w .asked .is .sound) (few-rows (w .asked .value) (w .asked .is)) (c .by (w .asked .value) (w .asked .is) .none e .none)
 
 -- what the list of rows says, case by case
-module _ {book : List ℕ} {answer witness : ℕ} (s : Sounds book answer witness) {before after : List ℕ} {r : RowsListed} (l : ListSays book before after r) where
-  pub rows-listed : {n : ℕ} → r ≡ All n → Rowed book after n answer witness
+module _ {book : List ℕ} {answer witness : ℕ} (s : SoundNeeds book answer witness) {before after : List ℕ} {r : RowsListed} (l : ListSays book before after r) where
+  pub rows-listed : {n : ℕ} → r ≡ All n → ListedNeeds book after n answer witness
   rows-listed e = rowed s (subst (ListedSays (admittedOf (s .value)) (s .value .question) before after) e (l .says (s .value) (s .sound)))
 
   pub rows-over : r ≡ Over → RewriterRefusal book answer witness (ofBook 9)
@@ -77,7 +77,7 @@ module _ {book : List ℕ} {answer witness : ℕ} (s : Sounds book answer witnes
 
 -- what the reading says, case by case
 module _ {book : List ℕ} {answer witness : ℕ} (a : 534 ≤ answer) (w : 120 ≤ witness) {r : Reading} (says : ReadingSays book r) where
-  pub read-sound : r ≡ Sound → Sounds book answer witness
+  pub read-sound : r ≡ Sound → SoundNeeds book answer witness
   read-sound e = let v = subst (ReadingSays book) e says in record { value = v .0; sound = v .1; room = roomy a w }
 
   pub read-refused : {why : Reason} → r ≡ Refused why → RewriterRefusal book answer witness why

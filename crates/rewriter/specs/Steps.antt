@@ -7,12 +7,12 @@ use Rattle.spec.specs.Table.{Fault1}
 use Rattle.row_choice.specs.Asked.{ChoiceNeeds}
 
 -- A sound book, and the areas are long enough.
-pub record Sounds (book : List ℕ) (answer witness : ℕ) : Type 0 where
+pub record SoundNeeds (book : List ℕ) (answer witness : ℕ) : Type 0 where
   pub value : Book
   pub sound : SoundBook book value
   pub room : Fault1 answer witness → ⊥
 
 -- Its summary rows, at most 64.
-pub record Rowed (book rows : List ℕ) (n answer witness : ℕ) : Type 0 where
+pub record ListedNeeds (book rows : List ℕ) (n answer witness : ℕ) : Type 0 where
   pub asked : ChoiceNeeds book rows n
   pub room : Fault1 answer witness → ⊥

@@ -1,7 +1,7 @@
 // A book of bytes rewritten: the answer and its witness in two lent areas, or the refusal.
 ghost use lib.ListN.{length};
 ghost use Rattle.spec.specs.Rewriting.{Rewriting};
-ghost use Rattle.rewriter.specs.Steps.{Sounds, Rowed};
+ghost use Rattle.rewriter.specs.Steps.{SoundNeeds, ListedNeeds};
 use answer::put_chosen;
 use books::read_book;
 use codes::ROWS_CODES;
@@ -22,7 +22,7 @@ fn rewrite_rows(
     answer: &mut [u8],
     witness: &mut [u8],
 ) -> Outcome
-    requires { ⌜ Rowed (now book) (now rows) n (length (now answer)) (length (now witness)) ⌝ }
+    requires { ⌜ ListedNeeds (now book) (now rows) n (length (now answer)) (length (now witness)) ⌝ }
     ensures { λ r. ⌜ Rewriting (now (book .entry)) (now (answer .entry)) (now (answer .exit)) (now (witness .entry)) (now (witness .exit)) r ⌝ }
 {
     let chosen = choose_rows(book, rows, n);
@@ -35,7 +35,7 @@ fn rewrite_rows(
 
 // A sound book: 9 where there are more than 64 rows.
 fn rewrite_sound(book: &[u8], answer: &mut [u8], witness: &mut [u8]) -> Outcome
-    requires { ⌜ Sounds (now book) (length (now answer)) (length (now witness)) ⌝ }
+    requires { ⌜ SoundNeeds (now book) (length (now answer)) (length (now witness)) ⌝ }
     ensures { λ r. ⌜ Rewriting (now (book .entry)) (now (answer .entry)) (now (answer .exit)) (now (witness .entry)) (now (witness .exit)) r ⌝ }
 {
     let mut rows = [0u64; ROWS_CODES];

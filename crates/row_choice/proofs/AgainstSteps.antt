@@ -21,7 +21,7 @@ use Rattle.bits.specs.Sets.{Has, with}
 use Rattle.bits.proofs.Laws.{has-none, with-new, with-old, with-cases}
 use Rattle.search_meaning.proofs.InUse.{uses-few}
 use Rattle.search_meaning.proofs.Owners.{uses-long}
-use Rattle.row_choice.specs.Dominators.{Pair, SomePair, TellsPair, Against, SomeAgainst, TellsAgainst}
+use Rattle.row_choice.specs.Dominators.{Pair, PairNeeds, PairSays, Against, AgainstNeeds, AgainstSays}
 
 -- The codes between where row d's use begins and where the next does.
 abbrev pub partOf : List ℕ → List ℕ → ℕ → List ℕ
@@ -59,7 +59,7 @@ module _ {source widths target begins : List ℕ} {n : ℕ} where
       pair-at : Pair s rows d r source widths (partOf target begins d)
       pair-at = record { sound = a .sound; under = a .under; over = (let c = a .count in omega arith); codes = use-at .codes }
 
-  module _ (a : SomeAgainst source widths target begins n) where
+  module _ (a : AgainstNeeds source widths target begins n) where
     pub against-few : n ≤ 64
     against-few = a .is .few
 
@@ -73,14 +73,14 @@ module _ {source widths target begins : List ℕ} {n : ℕ} where
       pub part-small : getD begins (d + 1) 0 ≤ 512
       part-small = omega (arith, use-at (a .is) d h .within, few-targets (a .is))
 
-      pub some-pair : SomePair source widths (partOf target begins d)
+      pub some-pair : PairNeeds source widths (partOf target begins d)
       some-pair = record { summaries = a .summaries; rows = a .rows; d = d; r = a .r; is = pair-at (a .is) d h }
 
   pub passed-starts : RowsCompared source widths target begins n 0 0
   passed-starts = record { by = λ s rows r a x. (λ h. absurd (has-none x h), λ h. absurd (omega (arith, h .0))) }
 
   module _ {d set : ℕ} (h : d < n) (p : RowsCompared source widths target begins n d set) where
-    pub passed-adds : {answer : Bool} {next : ℕ} → answer ≡ true → TellsPair source widths (partOf target begins d) answer → next ≡ with set d → RowsCompared source widths target begins n (d + 1) next
+    pub passed-adds : {answer : Bool} {next : ℕ} → answer ≡ true → PairSays source widths (partOf target begins d) answer → next ≡ with set d → RowsCompared source widths target begins n (d + 1) next
     passed-adds e t new = subst (RowsCompared source widths target begins n (d + 1)) (sym new) record { by = by }
       where
         by : (s : Summaries) (rows : RowList) (r : ℕ) → Against s rows r source widths target begins n → (x : ℕ) → Has (with set d) x ↔ ((x < d + 1) × Dominates s rows x r)
@@ -97,7 +97,7 @@ module _ {source widths target begins : List ℕ} {n : ℕ} where
             back (yes l) w = with-old set d x (p .by s rows r a x .1 (l, w .1))
             back (no l) w = let q : d ≡ x = omega (arith, w .0) in subst (Has (with set d)) q (with-new set d)
 
-    pub passed-skips : {answer : Bool} {next : ℕ} → answer ≡ false → TellsPair source widths (partOf target begins d) answer → next ≡ set → RowsCompared source widths target begins n (d + 1) next
+    pub passed-skips : {answer : Bool} {next : ℕ} → answer ≡ false → PairSays source widths (partOf target begins d) answer → next ≡ set → RowsCompared source widths target begins n (d + 1) next
     passed-skips {answer} e t new = subst (RowsCompared source widths target begins n (d + 1)) (sym new) record { by = by }
       where
         by : (s : Summaries) (rows : RowList) (r : ℕ) → Against s rows r source widths target begins n → (x : ℕ) → Has set x ↔ ((x < d + 1) × Dominates s rows x r)
@@ -111,5 +111,5 @@ module _ {source widths target begins : List ℕ} {n : ℕ} where
                 let z : _≡_ {A = ℕ} 0 1 = cc in
                 absurd (omega arith)
 
-  pub passed-ends : {d set : ℕ} → d ≤ n → n ≤ d → RowsCompared source widths target begins n d set → TellsAgainst source widths target begins n set
+  pub passed-ends : {d set : ℕ} → d ≤ n → n ≤ d → RowsCompared source widths target begins n d set → AgainstSays source widths target begins n set
   passed-ends {d} u v p = record { by = λ s rows r a. record { exactly = λ x. let w = p .by s rows r a x in let c = a .count in (λ m. let k = w .0 m in (omega arith, k .1), λ k. w .1 (omega arith, k .1)) } }

@@ -15,10 +15,10 @@ use Rattle.book_codes.specs.RowsGiven.{RowsOf}
 use Rattle.book_codes.proofs.Lent.{goals-few, source-codes, source-widths}
 use Rattle.task.specs.Task.{Task, posed}
 use Rattle.first_shortest.specs.Posed.{PosedBy}
-use Rattle.first_shortest.specs.Pruning.{Table, PosedWith}
-use Rattle.first_shortest.specs.Chosen.{Chooses}
+use Rattle.first_shortest.specs.Pruning.{Table, FeasibilityNeeds}
+use Rattle.first_shortest.specs.Chosen.{ChoiceSays}
 use Rattle.first_shortest.specs.declared.Chosen.{Chosen}
-use Rattle.row_choice.specs.Asked.{ChoiceNeedsOf, ChoiceNeeds, RowsChosen}
+use Rattle.row_choice.specs.Asked.{ChoiceNeedsOf, ChoiceNeeds, RowChoiceSays}
 use Rattle.row_choice.specs.Targets.{Targets, Owners}
 use Rattle.row_choice.specs.Dominance.{Dominance}
 use Rattle.row_choice.proofs.AskedLaws.{asked-rows}
@@ -54,11 +54,11 @@ module _ {book rows : List ℕ} {n : ℕ} (a : ChoiceNeeds book rows n) {before 
         given : RowsOf book rows n b all
         given = asked-rows o
 
-    pub choose-posed : PosedWith lent bound n dom
+    pub choose-posed : FeasibilityNeeds lent bound n dom
     choose-posed = record {
       task = record { summaries = admittedOf (a .value); question = a .value .question; rows = allRows (admittedOf (a .value)) (a .value .question); by = posed-by (a .value) (a .is) };
       table = table-of (asked-rows (a .is)) d;
     }
 
-    pub rows-chosen : {r : Chosen} → Chooses lent bound n r → RowsChosen book rows n r
+    pub rows-chosen : {r : Chosen} → ChoiceSays lent bound n r → RowChoiceSays book rows n r
     rows-chosen h = record { by = λ b o. h .by (admittedOf b) (b .question) (allRows (admittedOf b) (b .question)) (posed-by b o) }

@@ -19,8 +19,8 @@ use Rattle.codes.proofs.Padded.{codes-length, widths-length}
 use Rattle.task.specs.Task.{posed}
 use Rattle.search_meaning.proofs.AtCodes.{relation-at}
 use Rattle.search_meaning.proofs.InUse.{use-few, use-some}
-use Rattle.first_shortest.specs.Pruning.{UsesBy, Uses, TellsDominance}
-use Rattle.row_choice.specs.Dominators.{SoundRows, Pair, SomePair, NoRelation, TellsPair}
+use Rattle.first_shortest.specs.Pruning.{UsesBy, DominanceNeeds, DominanceSays}
+use Rattle.row_choice.specs.Dominators.{SoundRows, Pair, PairNeeds, NoRelation, PairSays}
 
 -- one subgoal more that is not of the relation
 pub none-yet : (target : List ℕ) {relation k : ℕ} → ((j : ℕ) → j < k → getD target (9 * j) 0 ≡ relation → ⊥) → (getD target (9 * k) 0 ≡ relation → ⊥) → (j : ℕ) → j < k + 1 → getD target (9 * j) 0 ≡ relation → ⊥
@@ -71,7 +71,7 @@ module _ {source widths target : List ℕ} where
       sets = λ k. omega (arith, zeros-at (length target / 9) 8 k);
     }
 
-  module _ (p : SomePair source widths target) where
+  module _ (p : PairNeeds source widths target) where
     pub pair-goals : length widths ≤ 8
     pair-goals = few-goals (p .is)
 
@@ -84,10 +84,10 @@ module _ {source widths target : List ℕ} where
     pub pair-own : length (take (length target / 9) (replicate {A = ℕ} 8 0)) ≡ length target / 9
     pair-own = marks-long (length target / 9) pair-targets
 
-    pub pair-uses : Uses (posed source widths (take (length widths) (replicate 8 0)) target (take (length target / 9) (replicate 8 0)))
+    pub pair-uses : DominanceNeeds (posed source widths (take (length widths) (replicate 8 0)) target (take (length target / 9) (replicate 8 0)))
     pair-uses = record { summaries = p .summaries; rows = p .rows; over = p .d; under = p .r; by = uses-by (p .is) }
 
-  pub pair-tells : {answer : Bool} → TellsDominance (posed source widths (take (length widths) (replicate 8 0)) target (take (length target / 9) (replicate 8 0))) answer → TellsPair source widths target answer
+  pub pair-tells : {answer : Bool} → DominanceSays (posed source widths (take (length widths) (replicate 8 0)) target (take (length target / 9) (replicate 8 0))) answer → PairSays source widths target answer
   pair-tells t = record { exactly = λ s rows d r p. t .exactly s rows d r (uses-by p) }
 
   -- the first subgoal of row r's use has to become one of row d's
@@ -107,5 +107,5 @@ module _ {source widths target : List ℕ} where
         let to : getD target (9 * w .0) 0 ≡ first .relation = ap (λ x. getD x (9 * w .0) 0) (p .codes) ∙ relation-at ownCode (inPlace s d (rowAt rows d)) (w .0) (w .1) ∙ ap (λ (g : Subgoal (Term (Own ℕ))). g .relation) (w .2) in
         n .none refl (w .0) (omega (arith, targets-are p, w .1)) (to ∙ sym from)
 
-  pub pair-apart : NoRelation target (getD source 0 0) false → TellsPair source widths target false
+  pub pair-apart : NoRelation target (getD source 0 0) false → PairSays source widths target false
   pair-apart n = record { exactly = λ s rows d r p. (λ e. absurd (let z : _≡_ {A = ℕ} 0 1 = cc in omega arith), λ o. absurd (not-over p n o)) }

@@ -15,7 +15,7 @@ use Rattle.rule_codes.proofs.Stores.{front-length}
 use Rattle.book_codes.specs.OneUse.{OneUse, OneWidths}
 use Rattle.book_codes.specs.RowsGiven.{RowsOf, RowsGiven}
 use Rattle.book_codes.proofs.Growing.{rowFrom, row-of}
-use Rattle.row_choice.specs.Dominators.{Against, SomeAgainst, TellsAgainst, RowsAsTargets, DominatorsOf}
+use Rattle.row_choice.specs.Dominators.{Against, AgainstNeeds, AgainstSays, RowsAsTargets, DominatorsOf}
 
 module _ {book rows : List ℕ} {n : ℕ} where
   module _ (g : RowsGiven book rows n) {r : ℕ} (h : r < n) {before after old new : List ℕ} {k : ℕ}
@@ -59,8 +59,8 @@ module _ {book rows : List ℕ} {n : ℕ} where
             all = onto .is b l w;
           }
 
-      pub row-against : SomeAgainst (take (9 * k) after) (take k new) target begins n
+      pub row-against : AgainstNeeds (take (9 * k) after) (take k new) target begins n
       row-against = record { summaries = admittedOf (g .value); rows = g .list; r = r; is = against (g .value) (g .list) (g .is) }
 
-      pub row-dominators : {set : ℕ} → TellsAgainst (take (9 * k) after) (take k new) target begins n set → DominatorsOf book rows n r set
+      pub row-dominators : {set : ℕ} → AgainstSays (take (9 * k) after) (take k new) target begins n set → DominatorsOf book rows n r set
       row-dominators t = record { by = λ b l w. t .by (admittedOf b) l r (against b l w) }

@@ -23,5 +23,5 @@ pub record ChoiceNeeds (book rows : List ℕ) (n : ℕ) : Type 0 where
   pub is : ChoiceNeedsOf book rows n value
 
 -- The first of the shortest equivalent lists of them, or that there is none.
-pub record RowsChosen (book rows : List ℕ) (n : ℕ) (r : Chosen) : Type 0 where
+pub record RowChoiceSays (book rows : List ℕ) (n : ℕ) (r : Chosen) : Type 0 where
   pub by : (b : Book) → ChoiceNeedsOf book rows n b → ChosenBy (admittedOf b) (b .question) (allRows (admittedOf b) (b .question)) r

@@ -45,7 +45,7 @@ pub record Pair (s : Summaries) (rows : RowList) (d r : ℕ) (source widths targ
   pub over : d < length rows
   pub codes : target ≡ codesOf ownCode (inPlace s d (rowAt rows d))
 
-pub record SomePair (source widths target : List ℕ) : Type 0 where
+pub record PairNeeds (source widths target : List ℕ) : Type 0 where
   pub summaries : Summaries
   pub rows : RowList
   pub d : ℕ
@@ -56,7 +56,7 @@ pub record SomePair (source widths target : List ℕ) : Type 0 where
 pub record NoRelation (target : List ℕ) (relation : ℕ) (answer : Bool) : Type 0 where
   pub none : answer ≡ false → (k : ℕ) → k < length target / 9 → getD target (9 * k) 0 ≡ relation → ⊥
 
-pub record TellsPair (source widths target : List ℕ) (answer : Bool) : Type 0 where
+pub record PairSays (source widths target : List ℕ) (answer : Bool) : Type 0 where
   pub exactly : (s : Summaries) (rows : RowList) (d r : ℕ) → Pair s rows d r source widths target → (answer ≡ true) ↔ Dominates s rows d r
 
 -- One row against all n.
@@ -67,13 +67,13 @@ pub record Against (s : Summaries) (rows : RowList) (r : ℕ) (source widths tar
   pub under : RowUseCodes s rows r source widths
   pub all : AllUses s rows target begins
 
-pub record SomeAgainst (source widths target begins : List ℕ) (n : ℕ) : Type 0 where
+pub record AgainstNeeds (source widths target begins : List ℕ) (n : ℕ) : Type 0 where
   pub summaries : Summaries
   pub rows : RowList
   pub r : ℕ
   pub is : Against summaries rows r source widths target begins n
 
-pub record TellsAgainst (source widths target begins : List ℕ) (n set : ℕ) : Type 0 where
+pub record AgainstSays (source widths target begins : List ℕ) (n set : ℕ) : Type 0 where
   pub by : (s : Summaries) (rows : RowList) (r : ℕ) → Against s rows r source widths target begins n → Dominators s rows r set
 
 -- The same of rows as codes, over a book.

@@ -1,7 +1,7 @@
 // Which rows dominate a row of a sound book: the set of those in whose use its own use can be found.
 ghost use Prim.Native.Nat.{_<_, _≤_};
 ghost use Rattle.book_codes.specs.RowsGiven.{RowsGiven};
-ghost use Rattle.row_choice.specs.Dominators.{NoRelation, SomePair, TellsPair, SomeAgainst, TellsAgainst, RowsAsTargets, DominatorsOf};
+ghost use Rattle.row_choice.specs.Dominators.{NoRelation, PairNeeds, PairSays, AgainstNeeds, AgainstSays, RowsAsTargets, DominatorsOf};
 use book_codes::one_use::kept_use;
 use codes::SUBGOAL_CODES;
 use first_shortest::feasibility::dominates;
@@ -25,8 +25,8 @@ fn has_relation(target: &[u64], relation: u64) -> bool
 
 // Whether the source's use goes into the target's. Both are single uses: what is marked beside their subgoals does not matter.
 fn goes_into(source: &[u64], widths: &[u8], target: &[u64]) -> bool
-    requires { ⌜ SomePair (now source) (now widths) (now target) ⌝ }
-    ensures { λ r. ⌜ TellsPair (now (source .entry)) (now (widths .entry)) (now (target .entry)) r ⌝ }
+    requires { ⌜ PairNeeds (now source) (now widths) (now target) ⌝ }
+    ensures { λ r. ⌜ PairSays (now (source .entry)) (now (widths .entry)) (now (target .entry)) r ⌝ }
 {
     // most pairs have nothing in common, and the search need not be asked
     if !has_relation(target, source[0]) {
@@ -47,8 +47,8 @@ fn those_over(
     starts: &[u16; MOST_ROWS + 1],
     n: usize,
 ) -> u64
-    requires { ⌜ SomeAgainst (now source) (now widths) (now target) (now starts) n ⌝ }
-    ensures { λ r. ⌜ TellsAgainst (now (source .entry)) (now (widths .entry)) (now (target .entry)) (now (starts .entry)) n r ⌝ }
+    requires { ⌜ AgainstNeeds (now source) (now widths) (now target) (now starts) n ⌝ }
+    ensures { λ r. ⌜ AgainstSays (now (source .entry)) (now (widths .entry)) (now (target .entry)) (now (starts .entry)) n r ⌝ }
 {
     let mut set: u64 = 0;
     let mut d: usize = 0;

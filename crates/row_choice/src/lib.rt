@@ -1,7 +1,7 @@
 // The task of choosing rows, posed for a sound book's question over all its summary rows.
 ghost use Prim.Native.Nat.{_≤_};
 ghost use Rattle.book_codes.specs.RowsGiven.{RowsGiven};
-ghost use Rattle.row_choice.specs.Asked.{ChoiceNeeds, RowsChosen};
+ghost use Rattle.row_choice.specs.Asked.{ChoiceNeeds, RowChoiceSays};
 ghost use Rattle.row_choice.specs.Targets.{Targets, Owners};
 ghost use Rattle.row_choice.specs.Dominance.{Dominance};
 
@@ -40,7 +40,7 @@ fn dominance(book: &[u8], rows: &[u64], n: usize, target: &[u64]) -> [u64; MOST_
 // The rows are chosen, given the codes of their uses.
 fn choose_onto(book: &[u8], rows: &[u64], n: usize, target: &[u64], own: &[u8]) -> Chosen
     requires { ⌜ ChoiceNeeds (now book) (now rows) n × Targets (now book) (now rows) n (now target) × Owners (now book) (now rows) n (now own) ⌝ }
-    ensures { λ r. ⌜ RowsChosen (now (book .entry)) (now (rows .entry)) n r ⌝ }
+    ensures { λ r. ⌜ RowChoiceSays (now (book .entry)) (now (rows .entry)) n r ⌝ }
 {
     let mut source = [0u64; QUESTION_CODES];
     let mut widths = [0u8; QUESTION_GOALS];
@@ -63,7 +63,7 @@ fn choose_onto(book: &[u8], rows: &[u64], n: usize, target: &[u64], own: &[u8]) 
 // The first of the shortest equivalent lists of the rows, by their numbers; or that there is none.
 pub fn choose_rows(book: &[u8], rows: &[u64], n: usize) -> Chosen
     requires { ⌜ ChoiceNeeds (now book) (now rows) n ⌝ }
-    ensures { λ r. ⌜ RowsChosen (now (book .entry)) (now (rows .entry)) n r ⌝ }
+    ensures { λ r. ⌜ RowChoiceSays (now (book .entry)) (now (rows .entry)) n r ⌝ }
 {
     let mut target = [0u64; ROWS_USES_CODES];
     let mut own = [0u8; ROWS_GOALS];

@@ -26,8 +26,8 @@ use Rattle.codes.proofs.Padded.{codes-length}
 use Rattle.summary_rows.specs.Tables.{TableTo}
 use Rattle.summary_rows.specs.declared.Tally.{Tally}
 use Rattle.summary_rows.proofs.TableLaws.{table-none, table-skip, table-more, table-over, over-codes, table-all}
-use Rattle.row_list.specs.Listing.{Sought, RowsOver, AllStand, ListSays}
-use Rattle.row_list.specs.Turns.{OntoQuestion, Turn, TurnSays, TablesTo}
+use Rattle.row_list.specs.Listing.{ListNeeds, RowsOver, AllStand, ListSays}
+use Rattle.row_list.specs.Turns.{TargetNeeds, TurnNeeds, TurnSays, TablesTo}
 use Rattle.row_list.specs.declared.RowsListed.the-variants.{All, Over}
 
 safe-of : (b : Book) {book : List ℕ} → SoundBook book b → AllSafe (admittedOf b)
@@ -40,7 +40,7 @@ all-summaries b s = length-map (b .summaries) (λ u. ifTrue (admitted (b .need) 
 pub tables-start : (book before : List ℕ) → TablesTo book 0 before before 0
 tables-start book before = record { table = λ b s. table-none (admittedOf b) (b .question) before }
 
-module _ {book : List ℕ} {area : ℕ} (w : Sought book area) where
+module _ {book : List ℕ} {area : ℕ} (w : ListNeeds book area) where
   pub count-room : 2 ≤ length book
   count-room = omega (arith, loads-room book 1 (book-loads (w .sound)) (entries-some book))
 
@@ -59,7 +59,7 @@ module _ {book : List ℕ} {area : ℕ} (w : Sought book area) where
         ap length (h .codes) ∙ omega (arith, length-append (codesOf termCode (h .rows)) (drop (9 * found) before), codes-length termCode (h .rows), length-drop (9 * found) before, h .counted)
 
     module _ {n : ℕ} (all : n ≡ count book) where
-      pub next-turn : {target own : List ℕ} → OntoQuestion book target own → i < n → Turn book target own (i + 1) found (length out)
+      pub next-turn : {target own : List ℕ} → TargetNeeds book target own → i < n → TurnNeeds book target own (i + 1) found (length out)
       next-turn onto h = record {
         has = record { value = w .value; sound = w .sound; from = omega arith; to = omega (arith, book-count (w .sound)) };
         onto = onto;

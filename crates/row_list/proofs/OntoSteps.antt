@@ -20,11 +20,11 @@ use Rattle.rule_codes.specs.Laid.{QuestionLaid}
 use Rattle.rule_codes.proofs.Stores.{front-length, front-again}
 use Rattle.summary_rows.specs.RowTask.{alone, onto}
 use Rattle.row_list.specs.Tasks.{TargetCodes}
-use Rattle.row_list.specs.Listing.{Sought}
+use Rattle.row_list.specs.Listing.{ListNeeds}
 use Rattle.row_list.specs.Placings.{TargetIs}
-use Rattle.row_list.specs.Turns.{OntoQuestion}
+use Rattle.row_list.specs.Turns.{TargetNeeds}
 
-module _ {book : List ℕ} {area : ℕ} (w : Sought book area) where
+module _ {book : List ℕ} {area : ℕ} (w : ListNeeds book area) where
   pub loads-it : Loads book
   loads-it = book-loads (w .sound)
 
@@ -60,7 +60,7 @@ module _ {book : List ℕ} {area : ℕ} (w : Sought book area) where
       pub own-part : length (take n (replicate {A = ℕ} 108 0)) ≡ n
       own-part = length-take-le n (replicate 108 0) (omega (arith, targets-few))
 
-      pub onto-question : OntoQuestion book (take (9 * n) after) (take n (replicate 108 0))
+      pub onto-question : TargetNeeds book (take (9 * n) after) (take n (replicate 108 0))
       onto-question = record { is = is }
         where
           is : (b : Book) → SoundBook book b → TargetIs (b .question) (take (9 * n) after) (take n (replicate 108 0))

@@ -13,12 +13,12 @@ use Rattle.rule_codes.specs.Promises.{HeadCount}
 use Rattle.rule_codes.proofs.Stores.{front-length, front-again}
 use Rattle.task.specs.Task.{Task, posed}
 use Rattle.summary_rows.specs.RowTask.{alone, placed, TaskOf}
-use Rattle.summary_rows.specs.RowsAfter.{RowsNeeds, Promised}
+use Rattle.summary_rows.specs.RowsAfter.{RowsNeeds, RowsSays}
 use Rattle.summary_rows.specs.declared.Tally.{Tally}
 use Rattle.row_list.specs.Tasks.{SummaryIs, SourceCodes}
-use Rattle.row_list.specs.Placings.{SummaryTask, SomePlacing, PlacedRows}
+use Rattle.row_list.specs.Placings.{SummaryTask, SummaryTaskNeeds, PlacedRows}
 
-module _ {relations bytes target own : List ℕ} {found area : ℕ} (w : SomePlacing relations bytes target own found area)
+module _ {relations bytes target own : List ℕ} {found area : ℕ} (w : SummaryTaskNeeds relations bytes target own found area)
     {before source old widths : List ℕ} {n : ℕ} (s : SourceCodes relations bytes before source old widths n) (wide : length before ≡ 144) (many : length old ≡ 16) where
   few-goals : (v : Rule ℕ) → SummaryIs relations bytes v → length (placed v) ≤ 16
   few-goals v i =
@@ -81,5 +81,5 @@ module _ {relations bytes target own : List ℕ} {found area : ℕ} (w : SomePla
     pub rows-asked : RowsNeeds lent h found area
     rows-asked = record { rule = w .rule; question = w .question; terms = w .is .onto .terms; task = task-of (w .rule) (w .question) (w .is); few = w .few; room = w .room }
 
-    pub rows-placed : {number : ℕ} {out after : List ℕ} {r : Tally} → Promised lent h number found out after r → PlacedRows relations bytes target own number found out after r
+    pub rows-placed : {number : ℕ} {out after : List ℕ} {r : Tally} → RowsSays lent h number found out after r → PlacedRows relations bytes target own number found out after r
     rows-placed a = record { rows = λ v q p. a .rows v q (p .onto .terms) (task-of v q p) }

@@ -13,13 +13,13 @@ use Rattle.spec.specs.Contents.{partAt}
 use Rattle.spec.specs.Table.{mostRows}
 use Rattle.spec.proofs.Lists.Places.{place-in}
 use Rattle.spec.proofs.Bytes.BookPasses.{book-loads, question-reads, summary-reads}
-use Rattle.admission.specs.Admission.{HasSummary, SaysIn}
+use Rattle.admission.specs.Admission.{HasSummary, AdmissionSays}
 use Rattle.admission.proofs.Standing.{standing}
 use Rattle.summary_rows.specs.RowsAfter.{RowsAfter}
 use Rattle.summary_rows.specs.declared.Tally.{Tally}
 use Rattle.row_list.specs.Tasks.{SummaryIs}
-use Rattle.row_list.specs.Placings.{SummaryTask, SomePlacing, PlacedRows}
-use Rattle.row_list.specs.Turns.{OntoQuestion, TurnSays}
+use Rattle.row_list.specs.Placings.{SummaryTask, SummaryTaskNeeds, PlacedRows}
+use Rattle.row_list.specs.Turns.{TargetNeeds, TurnSays}
 
 module _ {book : List ℕ} {i : ℕ} (has : HasSummary book i) where
   summary-is : (b : Book) → SoundBook book b → (u : Summary) → place (b .summaries) i ≡ some u → SummaryIs (partAt book 0) (partAt book (i + 1)) (u .rule)
@@ -31,7 +31,7 @@ module _ {book : List ℕ} {i : ℕ} (has : HasSummary book i) where
           let one : suc k + 1 ≡ suc (suc k) = omega arith in
           rw one record { layout = summary-reads s (suc k) u e; plain = s .value .summaries u (place-in (b .summaries) (suc k) u e) .plain }
 
-  module _ {target own : List ℕ} (onto : OntoQuestion book target own) {relations body : List ℕ} (first : relations ≡ partAt book 0) (part : body ≡ partAt book (i + 1)) where
+  module _ {target own : List ℕ} (onto : TargetNeeds book target own) {relations body : List ℕ} (first : relations ≡ partAt book 0) (part : body ≡ partAt book (i + 1)) where
     placing-of : (b : Book) → SoundBook book b → (u : Summary) → place (b .summaries) i ≡ some u → SummaryTask relations body target own (u .rule) (b .question)
     placing-of b s u p = rw (first, part) record {
       known = book-loads s .relations .arities;
@@ -41,12 +41,12 @@ module _ {book : List ℕ} {i : ℕ} (has : HasSummary book i) where
       onto = onto .is b s;
     }
 
-    pub some-placing : {found area : ℕ} → found ≤ mostRows → 9 * mostRows ≤ area → SomePlacing relations body target own found area
+    pub some-placing : {found area : ℕ} → found ≤ mostRows → 9 * mostRows ≤ area → SummaryTaskNeeds relations body target own found area
     some-placing few room =
         let u = standing has (has .value) (has .sound) in
         record { rule = u .0 .rule; question = has .value .question; is = placing-of (has .value) (has .sound) (u .0) (u .1); few = few; room = room }
 
-    pub turn-in : {found : ℕ} {before after : List ℕ} {says : Bool} {r : Tally} → SaysIn book i says → says ≡ true → PlacedRows relations body target own i found before after r → TurnSays book i found before after r
+    pub turn-in : {found : ℕ} {before after : List ℕ} {says : Bool} {r : Tally} → AdmissionSays book i says → says ≡ true → PlacedRows relations body target own i found before after r → TurnSays book i found before after r
     turn-in {found} {before} {after} {says} {r} a t p = record { rows = rows; left = left }
       where
         admitted : (b : Book) (s : SoundBook book b) → summary (admittedOf b) i ≡ some (standing has b s .0 .rule)
@@ -60,7 +60,7 @@ module _ {book : List ℕ} {i : ℕ} (has : HasSummary book i) where
         left : (b : Book) → SoundBook book b → summary (admittedOf b) i ≡ none → (r .over ≡ false) × (r .count ≡ found) × (after ≡ before)
         left b s e = absurd (Option·none-ne-some (standing has b s .0 .rule) (sym e ∙ admitted b s))
 
-  pub turn-out : (found : ℕ) (before : List ℕ) (says : Bool) → SaysIn book i says → says ≡ false → TurnSays book i found before before record { over = false; count = found }
+  pub turn-out : (found : ℕ) (before : List ℕ) (says : Bool) → AdmissionSays book i says → says ≡ false → TurnSays book i found before before record { over = false; count = found }
   turn-out found before says a f = record { rows = λ b s v e. absurd (Option·none-ne-some v (sym (out b s) ∙ e)); left = λ b s e. (refl, refl, refl) }
     where
       out : (b : Book) (s : SoundBook book b) → summary (admittedOf b) i ≡ none

@@ -14,7 +14,7 @@ use Rattle.row_list.specs.declared.RowsListed.{RowsListed}
 use Rattle.row_list.specs.declared.RowsListed.the-variants.{All, Over}
 
 -- Some sound book, and room for 64 rows of nine codes.
-pub record Sought (book : List ℕ) (area : ℕ) : Type 0 where
+pub record ListNeeds (book : List ℕ) (area : ℕ) : Type 0 where
   pub value : Book
   pub sound : SoundBook book value
   pub room : 9 * mostRows ≤ area

@@ -28,7 +28,7 @@ pub record SummaryTask (relations bytes target own : List ℕ) (v q : Rule ℕ) 
   pub question : RuleWithin relations questionMost q
   pub onto : TargetIs q target own
 
-pub record SomePlacing (relations bytes target own : List ℕ) (found area : ℕ) : Type 0 where
+pub record SummaryTaskNeeds (relations bytes target own : List ℕ) (found area : ℕ) : Type 0 where
   pub rule : Rule ℕ
   pub question : Rule ℕ
   pub is : SummaryTask relations bytes target own rule question

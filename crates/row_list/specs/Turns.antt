@@ -16,13 +16,13 @@ use Rattle.summary_rows.specs.declared.Tally.{Tally}
 use Rattle.row_list.specs.Placings.{TargetIs}
 
 -- The target is that of the book's question.
-pub record OntoQuestion (book target own : List ℕ) : Type 0 where
+pub record TargetNeeds (book target own : List ℕ) : Type 0 where
   pub is : (b : Book) → SoundBook book b → TargetIs (b .question) target own
 
 -- The turn of one summary.
-pub record Turn (book target own : List ℕ) (i found area : ℕ) : Type 0 where
+pub record TurnNeeds (book target own : List ℕ) (i found area : ℕ) : Type 0 where
   pub has : HasSummary book i
-  pub onto : OntoQuestion book target own
+  pub onto : TargetNeeds book target own
   pub few : found ≤ mostRows
   pub room : 9 * mostRows ≤ area
 

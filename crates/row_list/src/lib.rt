@@ -1,7 +1,7 @@
 // All summary rows of a sound book, in order, as codes.
-ghost use Rattle.row_list.specs.Listing.{Sought, ListSays};
-ghost use Rattle.row_list.specs.Placings.{SomePlacing, PlacedRows};
-ghost use Rattle.row_list.specs.Turns.{OntoQuestion, Turn, TurnSays};
+ghost use Rattle.row_list.specs.Listing.{ListNeeds, ListSays};
+ghost use Rattle.row_list.specs.Placings.{SummaryTaskNeeds, PlacedRows};
+ghost use Rattle.row_list.specs.Turns.{TargetNeeds, TurnNeeds, TurnSays};
 ghost use lib.ListN.{length};
 
 mod tasks; // one summary and the question as a task
@@ -33,7 +33,7 @@ fn rows_by(
     found: usize,
     out: &mut [u64],
 ) -> Tally
-    requires { ⌜ SomePlacing (now relations) (now body) (now target) (now own) found (length (now out)) ⌝ }
+    requires { ⌜ SummaryTaskNeeds (now relations) (now body) (now target) (now own) found (length (now out)) ⌝ }
     ensures { λ r. ⌜ PlacedRows (now (relations .entry)) (now (body .entry)) (now (target .entry)) (now (own .entry)) number found (now (out .entry)) (now (out .exit)) r ⌝ }
 {
     let mut source = [0u64; 144];
@@ -63,7 +63,7 @@ fn rows_at(
     found: usize,
     out: &mut [u64],
 ) -> Tally
-    requires { ⌜ Turn (now book) (now target) (now own) i found (length (now out)) ⌝ }
+    requires { ⌜ TurnNeeds (now book) (now target) (now own) i found (length (now out)) ⌝ }
     ensures { λ r. ⌜ TurnSays (now (book .entry)) i found (now (out .entry)) (now (out .exit)) r ⌝ }
 {
     if is_in(book, i) {
@@ -79,7 +79,7 @@ fn rows_at(
 
 // The summaries in order; the 65th row ends the listing.
 fn list_onto(book: &[u8], target: &[u64], own: &[u8], out: &mut [u64]) -> RowsListed
-    requires { ⌜ Sought (now book) (length (now out)) × OntoQuestion (now book) (now target) (now own) ⌝ }
+    requires { ⌜ ListNeeds (now book) (length (now out)) × TargetNeeds (now book) (now target) (now own) ⌝ }
     ensures { λ r. ⌜ ListSays (now (book .entry)) (now (out .entry)) (now (out .exit)) r ⌝ }
 {
     let n = count_of(book);
@@ -98,7 +98,7 @@ fn list_onto(book: &[u8], target: &[u64], own: &[u8], out: &mut [u64]) -> RowsLi
 
 // All summary rows of a sound book, nine codes each, at the front of `out`.
 pub fn list_rows(book: &[u8], out: &mut [u64]) -> RowsListed
-    requires { ⌜ Sought (now book) (length (now out)) ⌝ }
+    requires { ⌜ ListNeeds (now book) (length (now out)) ⌝ }
     ensures { λ r. ⌜ ListSays (now (book .entry)) (now (out .entry)) (now (out .exit)) r ⌝ }
 {
     let mut target = [0u64; 972];

@@ -10,7 +10,7 @@ use lib.Seq.{length-take-le, take-all, take-at, take-take, take-set-le, drop-set
 use Rattle.spec.specs.Order.{ListBefore, First}
 use Rattle.task.specs.Task.{Task}
 use Rattle.placing.specs.declared.Places.{Places}
-use Rattle.summary_rows.specs.RowPlaces.{RowPlaces, PlacesWith, RowFront, AtFront, RowGoesOn, NextPlace}
+use Rattle.summary_rows.specs.RowPlaces.{RowPlaces, PlacesWith, RowFront, FrontNeeds, RowGoesOn, NextPlace}
 use Rattle.summary_rows.proofs.Fronts.{front-same, front-before, front-last, front-put}
 use Rattle.summary_rows.proofs.RowFronts.{goes-on, front-row, front-long, front-begins}
 
@@ -20,11 +20,11 @@ pub record FrontFilled (p : Task) (h j : ℕ) (ks : List ℕ) (i : ℕ) (all : L
   pub on : j ≤ i
   pub begins : take j all ≡ take j ks
   pub behind : drop h all ≡ drop h ks
-  pub at : AtFront p h i all
+  pub at : FrontNeeds p h i all
   pub least : (js : List ℕ) → PlacesWith p h j ks js → (take i all ≡ take i js) ⊎ ListBefore _<_ (take i all) (take i js)
 
 module _ (p : Task) (h j : ℕ) (ks : List ℕ) where
-  pub filled-start : length ks ≡ 96 → AtFront p h j ks → FrontFilled p h j ks j ks
+  pub filled-start : length ks ≡ 96 → FrontNeeds p h j ks → FrontFilled p h j ks j ks
   filled-start long at = record { long = long; on = omega arith; begins = refl; behind = refl; at = at; least = λ js y. inl (sym (y .begins)) }
 
   module _ (i : ℕ) (all : List ℕ) (s : FrontFilled p h j ks i all) where

@@ -11,9 +11,9 @@ use Rattle.spec.specs.Table.{mostRows}
 use Rattle.task.specs.Task.{Task}
 use Rattle.placing.specs.declared.Places.{Places}
 use Rattle.summary_rows.specs.RowTask.{TaskOf}
-use Rattle.summary_rows.specs.RowPlaces.{HeadTask, RowPlaces, AtRow, StartPlaces, NextPlaces}
+use Rattle.summary_rows.specs.RowPlaces.{HeadTask, RowPlaces, NextRowNeeds, StartPlaces, NextPlaces}
 use Rattle.summary_rows.specs.RowCodes.{rowCodes}
-use Rattle.summary_rows.specs.RowsAfter.{RowsNeeds, Promised}
+use Rattle.summary_rows.specs.RowsAfter.{RowsNeeds, RowsSays}
 use Rattle.summary_rows.proofs.HeadLaws.{row-ready}
 use Rattle.summary_rows.proofs.RowCodes.{row-long}
 use Rattle.summary_rows.proofs.Listing.{RowsSoFar, listing-start, listing-more, listing-end, listing-over}
@@ -36,7 +36,7 @@ module _ (p : Task) (h n found : ℕ) (before : List ℕ) (asked : RowsNeeds p h
   state-start r a = record { small = asked .few; long = refl; row = λ ok. a .found ok .holds; each = λ v q ts w. listing-start n v q ts p h w found before r a }
 
   module _ (out ks : List ℕ) (count : ℕ) (s : State p h n found before out true ks count) where
-    pub at-row : AtRow p h ks
+    pub at-row : NextRowNeeds p h ks
     at-row = record { task = head-task asked; row = s .row refl }
 
     pub room : count < mostRows → 9 * count + 9 ≤ length out
@@ -50,8 +50,8 @@ module _ (p : Task) (h n found : ℕ) (before : List ℕ) (asked : RowsNeeds p h
       each = λ v q ts w. listing-more n v q ts p h w found before out ks count (omega (arith, asked .room)) (s .each v q ts w) out′ e r a;
     }
 
-    pub state-over : count ≡ mostRows → Promised p h n found before out record { over = true; count = count }
+    pub state-over : count ≡ mostRows → RowsSays p h n found before out record { over = true; count = count }
     state-over e = record { rows = λ v q ts w. listing-over n v q ts p h w found before out ks count e (s .each v q ts w) }
 
-  pub state-end : (out ks : List ℕ) (count : ℕ) → State p h n found before out false ks count → Promised p h n found before out record { over = false; count = count }
+  pub state-end : (out ks : List ℕ) (count : ℕ) → State p h n found before out false ks count → RowsSays p h n found before out record { over = false; count = count }
   state-end out ks count s = record { rows = λ v q ts w. listing-end n v q ts p h w found before out ks count (s .small) (s .each v q ts w) }

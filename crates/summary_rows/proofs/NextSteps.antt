@@ -9,7 +9,7 @@ use lib.Seq.{getD-take, take-take, drop-set-lt}
 use Rattle.spec.specs.Order.{ListBefore, First}
 use Rattle.task.specs.Task.{Task, targets}
 use Rattle.placing.specs.declared.Places.{Places}
-use Rattle.summary_rows.specs.RowPlaces.{HeadTask, PlacesWith, AtRow, RowFront, AtFront, OnTargets, Begins, NextPlace, StartPlaces, NextPlaces}
+use Rattle.summary_rows.specs.RowPlaces.{HeadTask, PlacesWith, NextRowNeeds, RowFront, FrontNeeds, OnTargets, Begins, NextPlace, StartPlaces, NextPlaces}
 use Rattle.summary_rows.specs.FixedPlaces.{InReach}
 use Rattle.summary_rows.proofs.Fronts.{front-put}
 use Rattle.summary_rows.proofs.RowFronts.{row-front, row-stands}
@@ -20,7 +20,7 @@ module _ (p : Task) (h : ℕ) (ready : HeadTask p h) (ks : List ℕ) where
   pub start-on : OnTargets p h 0 ks
   start-on = record { task = ready; few = omega arith; within = λ i l. absurd (omega arith); relation = λ i l. absurd (omega arith) }
 
-  pub start-at : Begins p h 0 ks true → AtFront p h 0 ks
+  pub start-at : Begins p h 0 ks true → FrontNeeds p h 0 ks
   start-at b = record { task = ready; few = omega arith; front = b .exactly .0 refl }
 
   pub start-none : ks ≡ replicate 96 0 → Begins p h 0 ks false → StartPlaces p h record { ok = false; ks = ks }
@@ -34,7 +34,7 @@ module _ (p : Task) (h : ℕ) (ready : HeadTask p h) (ks : List ℕ) where
     kept = λ e. absurd (true≢false e);
   }
 
-module _ (p : Task) (h : ℕ) (ks : List ℕ) (at : AtRow p h ks) where
+module _ (p : Task) (h : ℕ) (ks : List ℕ) (at : NextRowNeeds p h ks) where
   -- the head's places have targets
   pub place-within : (i : ℕ) → i < h → getD ks i 0 < targets p
   place-within i l = rw (getD-take h ks i 0 l) at (row-stands p h (at .task) (take h ks) (at .row) i l .within)
@@ -43,7 +43,7 @@ module _ (p : Task) (h : ℕ) (ks : List ℕ) (at : AtRow p h ks) where
   row-reach = record { few = at .task .short; targets = λ i l. omega (arith, place-within i l, at .task .sized .target) }
 
   -- its first places begin a row
-  pub row-at : (j : ℕ) → j ≤ h → AtFront p h j ks
+  pub row-at : (j : ℕ) → j ≤ h → FrontNeeds p h j ks
   row-at j l = record { task = at .task; few = l; front = subst (RowFront p h) (take-take j h ks l) (row-front p h (take h ks) (at .row) j) }
 
   module _ (long : length ks ≡ 96) where
@@ -64,7 +64,7 @@ module _ (p : Task) (h : ℕ) (ks : List ℕ) (at : AtRow p h ks) where
       found-not = gone-more p h (at .task) ks long (j - 1) (omega arith) later r place
 
       module _ (ok : r .ok ≡ true) where
-        pub found-at : AtFront p h (j - 1 + 1) (r .ks)
+        pub found-at : FrontNeeds p h (j - 1 + 1) (r .ks)
         found-at = record {
           task = at .task;
           few = omega arith;

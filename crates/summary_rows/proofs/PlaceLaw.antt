@@ -9,7 +9,7 @@ use native.Mathlib.Decide.{decLt}
 use lib.ListN.{length, getD, set, take, length-append, List·getD-append}
 use lib.Seq.{getD-set-same, getD-set-other, getD-append-add}
 use Rattle.task.specs.Task.{Task, targets, sourceRelation, targetRelation}
-use Rattle.summary_rows.specs.RowPlaces.{RowFront, AtFront, OnTargets, Begins, RowGoesOn, NextPlace}
+use Rattle.summary_rows.specs.RowPlaces.{RowFront, FrontNeeds, OnTargets, Begins, RowGoesOn, NextPlace}
 use Rattle.summary_rows.proofs.Fronts.{front-put}
 use Rattle.summary_rows.proofs.OneUse.{StandsAt}
 use Rattle.summary_rows.proofs.RowFronts.{values, row-stands, front-long, front-stands}
@@ -19,7 +19,7 @@ pub record TargetsTried (p : Task) (h j : ℕ) (ks : List ℕ) (from next : ℕ)
   pub reached : from ≤ next
   pub none : (k : ℕ) → RowGoesOn p h j ks from k → k < next → ⊥
 
-module _ (p : Task) (h j : ℕ) (ks : List ℕ) (long : length ks ≡ 96) (at : AtFront p h j ks) (low : j < h) (from : ℕ) where
+module _ (p : Task) (h j : ℕ) (ks : List ℕ) (long : length ks ≡ 96) (at : FrontNeeds p h j ks) (low : j < h) (from : ℕ) where
   put : (k : ℕ) → take (j + 1) (set ks j k) ≡ take j ks ++ (k ∷ [])
   put k = front-put ks j k (omega (arith, at .task .short))
 

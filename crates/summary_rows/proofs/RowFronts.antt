@@ -6,7 +6,7 @@ use native.Mathlib.Omega.{arith}
 use lib.ListN.{length, getD, take, drop, length-append, take-append-drop, List·getD-append}
 use lib.Seq.{take-at, getD-take, length-take-le}
 use Rattle.task.specs.Task.{Task, goals}
-use Rattle.summary_rows.specs.RowPlaces.{HeadTask, RowPlaces, RowFront, AtFront, RowGoesOn}
+use Rattle.summary_rows.specs.RowPlaces.{HeadTask, RowPlaces, RowFront, FrontNeeds, RowGoesOn}
 use Rattle.summary_rows.proofs.Fronts.{front-last}
 use Rattle.summary_rows.proofs.OneUse.{StandsAt, StandFrom, stand-at, mapped-stand}
 
@@ -36,7 +36,7 @@ pub goes-on : (p : Task) (h j : ℕ) (ks js : List ℕ) (from : ℕ) → RowPlac
 goes-on p h j ks js from y low e l = record { later = l; front = subst (RowFront p h) (front-last js j (omega (arith, y .long)) ∙ ap (λ m. m ++ (getD js j 0 ∷ [])) e) (row-front p h js y (j + 1)) }
 
 -- where ks begins with the front of a row
-module _ (p : Task) (h j : ℕ) (ks : List ℕ) (long : length ks ≡ 96) (at : AtFront p h j ks) where
+module _ (p : Task) (h j : ℕ) (ks : List ℕ) (long : length ks ≡ 96) (at : FrontNeeds p h j ks) where
   abbrev pub front-row : List ℕ
   front-row = take j ks ++ at .front .more
 

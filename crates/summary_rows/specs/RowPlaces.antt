@@ -58,7 +58,7 @@ abbrev pub NextPlaces : Task → ℕ → List ℕ → Places → Type 0
 NextPlaces p h ks = FirstRow (LaterPlaces p h ks) h ks
 
 -- ks begins with a row's places
-pub record AtRow (p : Task) (h : ℕ) (ks : List ℕ) : Type 0 where
+pub record NextRowNeeds (p : Task) (h : ℕ) (ks : List ℕ) : Type 0 where
   pub task : HeadTask p h
   pub row : RowPlaces p h (take h ks)
 
@@ -68,7 +68,7 @@ pub record RowFront (p : Task) (h : ℕ) (js : List ℕ) : Type 0 where
   pub row : RowPlaces p h (js ++ more)
 
 -- the first j of ks are such
-pub record AtFront (p : Task) (h j : ℕ) (ks : List ℕ) : Type 0 where
+pub record FrontNeeds (p : Task) (h j : ℕ) (ks : List ℕ) : Type 0 where
   pub task : HeadTask p h
   pub few : j ≤ h
   pub front : RowFront p h (take j ks)

@@ -38,5 +38,5 @@ pub record RowsNeeds (p : Task) (h found area : ℕ) : Type 0 where
   pub room : 9 * mostRows ≤ area
 
 -- What is promised, of every summary and question whose task it is.
-pub record Promised (p : Task) (h n found : ℕ) (before after : List ℕ) (r : Tally) : Type 0 where
+pub record RowsSays (p : Task) (h n found : ℕ) (before after : List ℕ) (r : Tally) : Type 0 where
   pub rows : (v q : Rule ℕ) (ts : List (Term ℕ)) → TaskOf v q ts p h → RowsAfter n v q found before after r

@@ -6,7 +6,7 @@ ghost use lib.Seq.{paste};
 ghost use Rattle.task.specs.Task.{posed};
 ghost use Rattle.summary_rows.specs.FixedPlaces.{InReach};
 ghost use Rattle.summary_rows.specs.RowCodes.{rowCodes};
-ghost use Rattle.summary_rows.specs.RowsAfter.{RowsNeeds, Promised};
+ghost use Rattle.summary_rows.specs.RowsAfter.{RowsNeeds, RowsSays};
 
 mod row_places; // rows as places of the head
 
@@ -72,7 +72,7 @@ pub fn rows_of(
     out: &mut [u64],
 ) -> Tally
     requires { ⌜ RowsNeeds (posed (now source) (now widths) (now lasts) (now target) (now own)) head found (length (now out)) ⌝ }
-    ensures { λ r. ⌜ Promised (posed (now (source .entry)) (now (widths .entry)) (now (lasts .entry)) (now (target .entry)) (now (own .entry))) head number found (now (out .entry)) (now (out .exit)) r ⌝ }
+    ensures { λ r. ⌜ RowsSays (posed (now (source .entry)) (now (widths .entry)) (now (lasts .entry)) (now (target .entry)) (now (own .entry))) head number found (now (out .entry)) (now (out .exit)) r ⌝ }
 {
     let first = first_row(source, widths, lasts, target, own, head);
     let mut ok = first.ok;

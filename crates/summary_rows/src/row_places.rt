@@ -5,7 +5,7 @@ ghost use Prim.Native.Nat.{_*_, _<_, _≤_};
 ghost use lib.ListN.{length, take, drop};
 ghost use Rattle.task.specs.Task.{posed};
 ghost use Rattle.spec.specs.Order.{ListBefore, First};
-ghost use Rattle.summary_rows.specs.RowPlaces.{HeadTask, AtRow, AtFront, OnTargets, PlacesWith, StartPlaces, NextPlaces, Begins, NextPlace};
+ghost use Rattle.summary_rows.specs.RowPlaces.{HeadTask, NextRowNeeds, FrontNeeds, OnTargets, PlacesWith, StartPlaces, NextPlaces, Begins, NextPlace};
 ghost use Rattle.summary_rows.specs.FixedPlaces.{binding, fixing, InReach};
 use codes::SLOTS;
 use codes::SUBGOAL_CODES;
@@ -81,7 +81,7 @@ fn next_place(
     ks: [u16; USES_GOALS],
     from: usize,
 ) -> Places
-    requires { ⌜ AtFront (posed (now source) (now widths) (now lasts) (now target) (now own)) head j ks ⌝ }
+    requires { ⌜ FrontNeeds (posed (now source) (now widths) (now lasts) (now target) (now own)) head j ks ⌝ }
     requires { ⌜ j < head ⌝ }
     ensures { λ r. ⌜ NextPlace (posed (now (source .entry)) (now (widths .entry)) (now (lasts .entry)) (now (target .entry)) (now (own .entry))) head j ks from r ⌝ }
 {
@@ -112,7 +112,7 @@ fn row_with(
     j: usize,
     ks: [u16; USES_GOALS],
 ) -> [u16; USES_GOALS]
-    requires { ⌜ AtFront (posed (now source) (now widths) (now lasts) (now target) (now own)) head j ks ⌝ }
+    requires { ⌜ FrontNeeds (posed (now source) (now widths) (now lasts) (now target) (now own)) head j ks ⌝ }
     ensures { λ r. ⌜ First (PlacesWith (posed (now (source .entry)) (now (widths .entry)) (now (lasts .entry)) (now (target .entry)) (now (own .entry))) head j ks) (ListBefore _<_) (take head r) × (drop head r ≡ drop head ks) ⌝ }
 {
     let mut all = ks;
@@ -156,7 +156,7 @@ pub fn next_row(
     head: usize,
     ks: [u16; USES_GOALS],
 ) -> Places
-    requires { ⌜ AtRow (posed (now source) (now widths) (now lasts) (now target) (now own)) head ks ⌝ }
+    requires { ⌜ NextRowNeeds (posed (now source) (now widths) (now lasts) (now target) (now own)) head ks ⌝ }
     ensures { λ r. ⌜ NextPlaces (posed (now (source .entry)) (now (widths .entry)) (now (lasts .entry)) (now (target .entry)) (now (own .entry))) head ks r ⌝ }
 {
     let mut j = head;

@@ -12,7 +12,7 @@ use Rattle.book_codes.specs.UsesLent.{SourceUsesOf}
 use Rattle.book_codes.proofs.BackTask as task
 use Rattle.placing.specs.FirstPlaces.{FirstPlaces}
 use Rattle.placing.specs.declared.Places.{Places}
-use Rattle.witness.specs.WitnessBytes.{placeBytes, PlacesFit}
+use Rattle.witness.specs.WitnessBytes.{placeBytes, PlacesNeeds}
 use Rattle.witness.specs.ThereTold.{Serves}
 use Rattle.witness.specs.BackTold.{BackOf}
 use Rattle.witness.proofs.Found.{FoundAt, found-at}
@@ -40,7 +40,7 @@ module _ {book source widths lasts : List ℕ} (b : Book) (l : List (Subgoal (Te
     back-found : FoundAt (task.lent b l o target heads) bound r
     back-found = found-at f (task.back-places b l o target heads (serves .back))
 
-    pub back-placed : {out : List ℕ} {at : ℕ} → at + 96 ≤ length out → PlacesFit out at (r .ks) (length widths)
+    pub back-placed : {out : List ℕ} {at : ℕ} → at + 96 ≤ length out → PlacesNeeds out at (r .ks) (length widths)
     back-placed room = record {
       room = omega (arith, all-few);
       few = all-few;

@@ -22,7 +22,7 @@ use Rattle.placing.specs.declared.Places.{Places}
 use Rattle.search_meaning.specs.Uses.{useAt, withinAt, pairsOf}
 use Rattle.search_meaning.proofs.Owners.{owners-at}
 use Rattle.search_meaning.proofs.InUse.{uses-few}
-use Rattle.witness.specs.WitnessBytes.{pairBytes, PairsFit}
+use Rattle.witness.specs.WitnessBytes.{pairBytes, PairsNeeds}
 use Rattle.witness.specs.ThereTold.{Serves, ThereOf}
 use Rattle.witness.proofs.Found.{FoundAt, found-at}
 
@@ -93,7 +93,7 @@ module _ {book target own inner : List ℕ} (b : Book) (l : List (Subgoal (Term 
       | no h ↦ omega (arith, List·getD-eq-default inner 0 {n = k} (omega (arith, owned, insides-same)))
     ]
 
-    pub there-paired : {out : List ℕ} → 24 ≤ length out → PairsFit out (r .ks) own inner n
+    pub there-paired : {out : List ℕ} → 24 ≤ length out → PairsNeeds out (r .ks) own inner n
     there-paired room = record {
       room = omega (arith, few-goals);
       few = omega (arith, few-goals);

@@ -19,5 +19,5 @@ pub record BackOf (b : Book) (l : List (Subgoal (Term ℕ))) (at : ℕ) (before 
   pub few : n ≤ 96
   pub written : after ≡ sets before at bytes
 
-pub record BackTold (book rows : List ℕ) (k at : ℕ) (before after : List ℕ) (n : ℕ) : Type 0 where
+pub record BackSays (book rows : List ℕ) (k at : ℕ) (before after : List ℕ) (n : ℕ) : Type 0 where
   pub is : (b : Book) (l : List (Subgoal (Term ℕ))) → FewRowsOf book rows k b l → Serves b l → BackOf b l at before after n

@@ -7,9 +7,9 @@ use Rattle.book_codes.specs.UsesLent.{TargetUsesOf, TargetUses}
 use Rattle.witness.specs.ThereTold.{Serves, ThereOf}
 
 module _ (book target own inner : List ℕ) where
-  pub record OntoServing : Type 0 where
+  pub record ThereNeeds : Type 0 where
     pub onto : TargetUses book target own inner
     pub serves : Serves (onto .value) (onto .list)
 
-  pub record OntoTold (before after : List ℕ) (n : ℕ) : Type 0 where
+  pub record ThereOntoSays (before after : List ℕ) (n : ℕ) : Type 0 where
     pub is : (b : Book) (l : List (Subgoal (Term ℕ))) → TargetUsesOf book target own inner b l → Serves b l → ThereOf b l before after n

@@ -14,7 +14,7 @@ use Rattle.book_codes.specs.FewRows.{FewRows, FewRowsOf}
 abbrev pub Serves : Book → List (Subgoal (Term ℕ)) → Type 0
 Serves b l = Equivalent (admittedOf b) (b .question) (rewriting (b .question) l)
 
-pub record Tells (book rows : List ℕ) (k : ℕ) : Type 0 where
+pub record WitnessNeeds (book rows : List ℕ) (k : ℕ) : Type 0 where
   pub some : FewRows book rows k
   pub serves : Serves (some .value) (some .list)
 
@@ -26,5 +26,5 @@ pub record ThereOf (b : Book) (l : List (Subgoal (Term ℕ))) (before after : Li
   pub few : n ≤ 24
   pub written : after ≡ sets before 0 bytes
 
-pub record ThereTold (book rows : List ℕ) (k : ℕ) (before after : List ℕ) (n : ℕ) : Type 0 where
+pub record ThereSays (book rows : List ℕ) (k : ℕ) (before after : List ℕ) (n : ℕ) : Type 0 where
   pub is : (b : Book) (l : List (Subgoal (Term ℕ))) → FewRowsOf book rows k b l → Serves b l → ThereOf b l before after n

@@ -14,13 +14,13 @@ placeBytes ks i zero = []
 placeBytes ks i (suc n) = (getD ks i 0 + 1) ∷ placeBytes ks (suc i) n
 
 -- there is room, the places are targets, and what is written is a byte
-pub record PairsFit (out ks own inner : List ℕ) (n : ℕ) : Type 0 where
+pub record PairsNeeds (out ks own inner : List ℕ) (n : ℕ) : Type 0 where
   pub room : 2 * n ≤ length out
   pub few : n ≤ 96
   pub targets : (i : ℕ) → i < n → (getD ks i 0 < length own) × (getD ks i 0 < length inner)
   pub bytes : (k : ℕ) → (getD own k 0 < 255) × (getD inner k 0 < 255)
 
-pub record PlacesFit (out : List ℕ) (at : ℕ) (ks : List ℕ) (n : ℕ) : Type 0 where
+pub record PlacesNeeds (out : List ℕ) (at : ℕ) (ks : List ℕ) (n : ℕ) : Type 0 where
   pub room : at + n ≤ length out
   pub few : n ≤ 96
   pub bytes : (i : ℕ) → i < n → getD ks i 0 < 255

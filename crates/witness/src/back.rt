@@ -1,9 +1,9 @@
 // "per rewriting subgoal and per subgoal of its summary, one byte: question subgoal".
 ghost use Prim.Native.Nat.{_+_, _≤_};
 ghost use lib.ListN.{length};
-ghost use Rattle.witness.specs.ThereTold.{Tells};
-ghost use Rattle.witness.specs.BackTold.{BackTold};
-ghost use Rattle.witness.specs.BackSteps.{FromServing, FromTold};
+ghost use Rattle.witness.specs.ThereTold.{WitnessNeeds};
+ghost use Rattle.witness.specs.BackTold.{BackSays};
+ghost use Rattle.witness.specs.BackSteps.{BackNeeds, BackFromSays};
 use crate::bytes::put_places;
 use book_codes::question::question_bindings;
 use book_codes::question::question_target;
@@ -24,8 +24,8 @@ fn back_from(
     out: &mut [u8],
     at: usize,
 ) -> usize
-    requires { ⌜ FromServing (now book) (now source) (now widths) (now lasts) × (at + 96 ≤ length (now out)) ⌝ }
-    ensures { λ r. ⌜ FromTold (now (book .entry)) (now (source .entry)) (now (widths .entry)) (now (lasts .entry)) at (now (out .entry)) (now (out .exit)) r ⌝ }
+    requires { ⌜ BackNeeds (now book) (now source) (now widths) (now lasts) × (at + 96 ≤ length (now out)) ⌝ }
+    ensures { λ r. ⌜ BackFromSays (now (book .entry)) (now (source .entry)) (now (widths .entry)) (now (lasts .entry)) at (now (out .entry)) (now (out .exit)) r ⌝ }
 {
     let mut target = [0u64; QUESTION_CODES];
     let n = question_target(book, &mut target);
@@ -46,8 +46,8 @@ fn back_from(
 
 // The second part of the witness of k rows that are equivalent to the question, from `at` on. Returns its length.
 pub fn put_back(book: &[u8], rows: &[u64], k: usize, out: &mut [u8], at: usize) -> usize
-    requires { ⌜ Tells (now book) (now rows) k × (at + 96 ≤ length (now out)) ⌝ }
-    ensures { λ r. ⌜ BackTold (now (book .entry)) (now (rows .entry)) k at (now (out .entry)) (now (out .exit)) r ⌝ }
+    requires { ⌜ WitnessNeeds (now book) (now rows) k × (at + 96 ≤ length (now out)) ⌝ }
+    ensures { λ r. ⌜ BackSays (now (book .entry)) (now (rows .entry)) k at (now (out .entry)) (now (out .exit)) r ⌝ }
 {
     let mut source = [0u64; USES_CODES];
     let mut widths = [0u8; USES_GOALS];

@@ -2,8 +2,8 @@
 // "per question subgoal, two bytes: rewriting subgoal and subgoal within that summary".
 ghost use Prim.Native.Nat.{_≤_};
 ghost use lib.ListN.{length};
-ghost use Rattle.witness.specs.ThereTold.{Tells, ThereTold};
-ghost use Rattle.witness.specs.ThereSteps.{OntoServing, OntoTold};
+ghost use Rattle.witness.specs.ThereTold.{WitnessNeeds, ThereSays};
+ghost use Rattle.witness.specs.ThereSteps.{ThereNeeds, ThereOntoSays};
 use crate::bytes::put_pairs;
 use book_codes::question::question_bindings;
 use book_codes::question::question_source;
@@ -17,8 +17,8 @@ use spec::QUESTION_GOALS;
 
 // The question's subgoals placed on the uses' subgoals.
 fn there_onto(book: &[u8], target: &[u64], own: &[u8], inner: &[u8], out: &mut [u8]) -> usize
-    requires { ⌜ OntoServing (now book) (now target) (now own) (now inner) × (24 ≤ length (now out)) ⌝ }
-    ensures { λ r. ⌜ OntoTold (now (book .entry)) (now (target .entry)) (now (own .entry)) (now (inner .entry)) (now (out .entry)) (now (out .exit)) r ⌝ }
+    requires { ⌜ ThereNeeds (now book) (now target) (now own) (now inner) × (24 ≤ length (now out)) ⌝ }
+    ensures { λ r. ⌜ ThereOntoSays (now (book .entry)) (now (target .entry)) (now (own .entry)) (now (inner .entry)) (now (out .entry)) (now (out .exit)) r ⌝ }
 {
     let mut source = [0u64; QUESTION_CODES];
     let mut widths = [0u8; QUESTION_GOALS];
@@ -39,8 +39,8 @@ fn there_onto(book: &[u8], target: &[u64], own: &[u8], inner: &[u8], out: &mut [
 
 // The first part of the witness of k rows that are equivalent to the question. Returns its length.
 pub fn put_there(book: &[u8], rows: &[u64], k: usize, out: &mut [u8]) -> usize
-    requires { ⌜ Tells (now book) (now rows) k × (24 ≤ length (now out)) ⌝ }
-    ensures { λ r. ⌜ ThereTold (now (book .entry)) (now (rows .entry)) k (now (out .entry)) (now (out .exit)) r ⌝ }
+    requires { ⌜ WitnessNeeds (now book) (now rows) k × (24 ≤ length (now out)) ⌝ }
+    ensures { λ r. ⌜ ThereSays (now (book .entry)) (now (rows .entry)) k (now (out .entry)) (now (out .exit)) r ⌝ }
 {
     let mut target = [0u64; USES_CODES];
     let mut own = [0u8; USES_GOALS];

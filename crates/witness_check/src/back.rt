@@ -3,9 +3,9 @@ ghost use Prim.Native.Nat.{_≤_};
 ghost use lib.ListN.{length};
 ghost use Rattle.book_codes.specs.FewRows.{FewRows};
 ghost use Rattle.book_codes.specs.UsesLent.{SourceUses};
-ghost use Rattle.witness_check.specs.WayBack.Confirms.{BackConfirms};
+ghost use Rattle.witness_check.specs.WayBack.Confirms.{BackCheckSays};
 ghost use Rattle.witness_check.specs.WayBack.Places.{Before, BytePlaces};
-ghost use Rattle.witness_check.specs.WayBack.Steps.{FromConfirms};
+ghost use Rattle.witness_check.specs.WayBack.Steps.{BackAlongSays};
 use book_codes::question::question_bindings;
 use book_codes::question::question_target;
 use book_codes::uses::expand_back;
@@ -43,7 +43,7 @@ fn byte_places(witness: &[u8]) -> [u16; USES_GOALS]
 // Over the codes of the uses.
 fn back_along(book: &[u8], source: &[u64], widths: &[u8], lasts: &[u8], witness: &[u8]) -> bool
     requires { ⌜ SourceUses (now book) (now source) (now widths) (now lasts) ⌝ }
-    ensures { λ r. ⌜ FromConfirms (now (book .entry)) (now (source .entry)) (now (widths .entry)) (now (lasts .entry)) (now (witness .entry)) r ⌝ }
+    ensures { λ r. ⌜ BackAlongSays (now (book .entry)) (now (source .entry)) (now (widths .entry)) (now (lasts .entry)) (now (witness .entry)) r ⌝ }
 {
     if witness.len() != widths.len() {
         return false;
@@ -67,7 +67,7 @@ fn back_along(book: &[u8], source: &[u64], widths: &[u8], lasts: &[u8], witness:
 // Whether the bytes are the second part of a witness of k rows.
 pub fn comes_back(book: &[u8], rows: &[u64], k: usize, witness: &[u8]) -> bool
     requires { ⌜ FewRows (now book) (now rows) k ⌝ }
-    ensures { λ r. ⌜ BackConfirms (now (book .entry)) (now (rows .entry)) k (now (witness .entry)) r ⌝ }
+    ensures { λ r. ⌜ BackCheckSays (now (book .entry)) (now (rows .entry)) k (now (witness .entry)) r ⌝ }
 {
     let mut source = [0u64; USES_CODES];
     let mut widths = [0u8; USES_GOALS];

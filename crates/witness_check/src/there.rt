@@ -3,9 +3,9 @@
 ghost use Prim.Native.Nat.{_*_, _<_, _≤_};
 ghost use lib.ListN.{length};
 ghost use Rattle.book_codes.specs.FewRows.{FewRows};
-ghost use Rattle.witness_check.specs.WayThere.Confirms.{ThereConfirms};
+ghost use Rattle.witness_check.specs.WayThere.Confirms.{ThereCheckSays};
 ghost use Rattle.witness_check.specs.WayThere.Places.{PlaceOf, PairPlaces};
-ghost use Rattle.witness_check.specs.WayThere.Steps.{Stood, StoodConfirms};
+ghost use Rattle.witness_check.specs.WayThere.Steps.{ThereAlongNeeds, ThereAlongSays};
 use book_codes::question::question_bindings;
 use book_codes::question::question_source;
 use book_codes::uses::expand;
@@ -69,8 +69,8 @@ fn there_along(
     k: usize,
     witness: &[u8],
 ) -> bool
-    requires { ⌜ Stood (now book) (now target) (now own) (now starts) k ⌝ }
-    ensures { λ r. ⌜ StoodConfirms (now (book .entry)) (now (target .entry)) (now (own .entry)) (now (starts .entry)) k (now (witness .entry)) r ⌝ }
+    requires { ⌜ ThereAlongNeeds (now book) (now target) (now own) (now starts) k ⌝ }
+    ensures { λ r. ⌜ ThereAlongSays (now (book .entry)) (now (target .entry)) (now (own .entry)) (now (starts .entry)) k (now (witness .entry)) r ⌝ }
 {
     let mut source = [0u64; QUESTION_CODES];
     let mut widths = [0u8; QUESTION_GOALS];
@@ -95,7 +95,7 @@ fn there_along(
 // Whether the bytes are the first part of a witness of k rows.
 pub fn goes_there(book: &[u8], rows: &[u64], k: usize, witness: &[u8]) -> bool
     requires { ⌜ FewRows (now book) (now rows) k ⌝ }
-    ensures { λ r. ⌜ ThereConfirms (now (book .entry)) (now (rows .entry)) k (now (witness .entry)) r ⌝ }
+    ensures { λ r. ⌜ ThereCheckSays (now (book .entry)) (now (rows .entry)) k (now (witness .entry)) r ⌝ }
 {
     let mut target = [0u64; USES_CODES];
     let mut own = [0u8; USES_GOALS];

@@ -10,9 +10,9 @@ use Rattle.outcomes.proofs.AsRule.{rule-once}
 use Rattle.codes.specs.Code.{termCode, codesOf}
 use Rattle.book_codes.specs.Question.{SomeSound}
 use Rattle.checker.specs.declared.proposal.Proposal.{Proposal}
-use Rattle.checker.specs.Proposed.{empty, IsProposed, Proposed}
+use Rattle.checker.specs.Proposed.{empty, IsProposed, ProposalSays}
 
-module _ {book rewriting : List ℕ} (w : SomeSound book) (r o : Proposal) (p : Proposed book rewriting r) (q : Proposed book rewriting o) where
+module _ {book rewriting : List ℕ} (w : SomeSound book) (r o : Proposal) (p : ProposalSays book rewriting r) (q : ProposalSays book rewriting o) where
   both : IsProposed (w .value) rewriting r → IsProposed (w .value) rewriting o → (r .count ≡ o .count) × (r .codes ≡ o .codes)
   both x y =
       let same : x .rule ≡ y .rule = rule-once (w .value) (w .sound) rewriting (x .rule) (y .rule) (x .is) (y .is) (x .written) (y .written) in

@@ -11,7 +11,7 @@ use Rattle.bits.proofs.Laws.{same-members}
 use Rattle.task.specs.Task.{Task}
 use Rattle.lookahead.specs.declared.reasons.Rows.{Rows}
 use Rattle.lookahead.specs.Outlook.{SlotOf, vainly}
-use Rattle.lookahead.specs.Seen.{NoRowFor, Seen, closed, alone, together, fair, Outlooks}
+use Rattle.lookahead.specs.Seen.{NoRowFor, Seen, closed, alone, together, fair, LookSays}
 use Rattle.lookahead.specs.declared.Outlook.{Outlook}
 
 module _ (p : Task) (at : ℕ) (b : List ℕ) (rows : Rows) where
@@ -43,5 +43,5 @@ module _ (p : Task) (at : ℕ) (b : List ℕ) (rows : Rows) where
   seen-once r s (fair n f t) (together m k d y c) = absurd (t y)
   seen-once r s (fair n f t) (fair m d y) = refl
 
-  pub outlook-once : (r s : Outlook) → Outlooks p at b rows r → Outlooks p at b rows s → r ≡ s
+  pub outlook-once : (r s : Outlook) → LookSays p at b rows r → LookSays p at b rows s → r ≡ s
   outlook-once r s f g = seen-once r s (f .seen) (g .seen)

@@ -9,7 +9,7 @@ use Rattle.spec.specs.Summaries.{Summaries}
 use Rattle.spec.specs.Book.{admittedOf}
 use Rattle.spec.proofs.Decided.Rows.{allRows}
 use Rattle.codes.specs.Code.{termCode, codesOf}
-use Rattle.row_list.specs.Listing.{Sought, ListedSays, ListSays}
+use Rattle.row_list.specs.Listing.{ListNeeds, ListedSays, ListSays}
 use Rattle.row_list.specs.declared.RowsListed.{RowsListed}
 use Rattle.row_list.specs.declared.RowsListed.the-variants.{All, Over}
 
@@ -22,6 +22,6 @@ module _ (s : Summaries) (q : Rule ℕ) (before after after′ : List ℕ) where
   says-once Over (All m) a b = absurd (omega (arith, b .count, b .few, a .many))
   says-once Over Over a b = (refl, a .codes ∙ sym (b .codes))
 
-pub listing-once : (book : List ℕ) (area : ℕ) → Sought book area → (before after after′ : List ℕ) (r r′ : RowsListed) → ListSays book before after r → ListSays book before after′ r′ → (r ≡ r′) × (after ≡ after′)
+pub listing-once : (book : List ℕ) (area : ℕ) → ListNeeds book area → (before after after′ : List ℕ) (r r′ : RowsListed) → ListSays book before after r → ListSays book before after′ r′ → (r ≡ r′) × (after ≡ after′)
 listing-once book area w before after after′ r r′ a b =
     says-once (admittedOf (w .value)) (w .value .question) before after after′ r r′ (a .says (w .value) (w .sound)) (b .says (w .value) (w .sound))

@@ -11,7 +11,7 @@ use Rattle.spec.proofs.Lists.Strict.{Strict}
 use Rattle.spec.proofs.Lists.Enumerate.{Enumerates, enumerates-first}
 use Rattle.codes.specs.Code.{termCode, codesOf}
 use Rattle.task.specs.Task.{Task}
-use Rattle.summary_rows.specs.RowsAfter.{RowBy, RowsAfter, RowsNeeds, Promised}
+use Rattle.summary_rows.specs.RowsAfter.{RowBy, RowsAfter, RowsNeeds, RowsSays}
 use Rattle.summary_rows.specs.declared.Tally.{Tally}
 use Rattle.summary_rows.proofs.Residual.{first-of, none-of, rest-enumerates}
 
@@ -35,6 +35,6 @@ module _ (n : ℕ) (v q : Rule ℕ) (found : ℕ) (before : List ℕ) where
       count = a .count ∙ ap (λ l. found + length (take (mostRows - found) l)) same ∙ sym (b .count)
 
 -- Any two results that meet the promise are the same, and leave the same codes.
-pub promised-once : (p : Task) (h n found area : ℕ) (before after after′ : List ℕ) (r r′ : Tally) → RowsNeeds p h found area → Promised p h n found before after r → Promised p h n found before after′ r′ → (r ≡ r′) × (after ≡ after′)
+pub promised-once : (p : Task) (h n found area : ℕ) (before after after′ : List ℕ) (r r′ : Tally) → RowsNeeds p h found area → RowsSays p h n found before after r → RowsSays p h n found before after′ r′ → (r ≡ r′) × (after ≡ after′)
 promised-once p h n found area before after after′ r r′ w a b =
     after-once n (w .rule) (w .question) found before after after′ r r′ (a .rows (w .rule) (w .question) (w .terms) (w .task)) (b .rows (w .rule) (w .question) (w .terms) (w .task))

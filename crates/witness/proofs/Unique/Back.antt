@@ -6,11 +6,11 @@ use lib.ListN.{length}
 use lib.Seq.{sets}
 use Rattle.spec.proofs.Lists.Strict.{first-unique}
 use Rattle.spec.proofs.Decided.Orders.{bytesOrder}
-use Rattle.witness.specs.ThereTold.{Tells}
-use Rattle.witness.specs.BackTold.{BackTold}
+use Rattle.witness.specs.ThereTold.{WitnessNeeds}
+use Rattle.witness.specs.BackTold.{BackSays}
 
-module _ {book rows : List ℕ} {k : ℕ} (w : Tells book rows k) where
-  pub back-once : {at : ℕ} {before after other : List ℕ} {n m : ℕ} → BackTold book rows k at before after n → BackTold book rows k at before other m → (n ≡ m) × (after ≡ other)
+module _ {book rows : List ℕ} {k : ℕ} (w : WitnessNeeds book rows k) where
+  pub back-once : {at : ℕ} {before after other : List ℕ} {n m : ℕ} → BackSays book rows k at before after n → BackSays book rows k at before other m → (n ≡ m) × (after ≡ other)
   back-once {at} {before} s t =
       let a = s .is (w .some .value) (w .some .list) (w .some .is) (w .serves) in
       let b = t .is (w .some .value) (w .some .list) (w .some .is) (w .serves) in

@@ -6,10 +6,10 @@ use lib.ListN.{length}
 use lib.Seq.{sets}
 use Rattle.spec.proofs.Lists.Strict.{first-unique}
 use Rattle.spec.proofs.Decided.Orders.{bytesOrder}
-use Rattle.witness.specs.ThereTold.{Tells, ThereTold}
+use Rattle.witness.specs.ThereTold.{WitnessNeeds, ThereSays}
 
-module _ {book rows : List ℕ} {k : ℕ} (w : Tells book rows k) where
-  pub there-once : {before after other : List ℕ} {n m : ℕ} → ThereTold book rows k before after n → ThereTold book rows k before other m → (n ≡ m) × (after ≡ other)
+module _ {book rows : List ℕ} {k : ℕ} (w : WitnessNeeds book rows k) where
+  pub there-once : {before after other : List ℕ} {n m : ℕ} → ThereSays book rows k before after n → ThereSays book rows k before other m → (n ≡ m) × (after ≡ other)
   there-once {before} s t =
       let a = s .is (w .some .value) (w .some .list) (w .some .is) (w .serves) in
       let b = t .is (w .some .value) (w .some .list) (w .some .is) (w .serves) in

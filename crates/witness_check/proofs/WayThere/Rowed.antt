@@ -16,8 +16,8 @@ use Rattle.book_codes.specs.FewRows.{FewRowsOf, FewRows}
 use Rattle.book_codes.proofs.Beginnings.{starts-long}
 use Rattle.book_codes.proofs.Expanded.{onto-of}
 use Rattle.search_meaning.proofs.Owners.{uses-long}
-use Rattle.witness_check.specs.WayThere.Confirms.{ThereConfirms}
-use Rattle.witness_check.specs.WayThere.Steps.{StoodOf, Stood, StoodConfirms}
+use Rattle.witness_check.specs.WayThere.Confirms.{ThereCheckSays}
+use Rattle.witness_check.specs.WayThere.Steps.{StoodOf, ThereAlongNeeds, ThereAlongSays}
 
 module _ {book rows : List ℕ} {k n : ℕ} (counted : GoalsCounted book rows k n) {o₀ o w₀ w i₀ i s₀ s : List ℕ}
     (codes : AllCodes book rows k ownCode w₀ w) (owns : AllOwners book rows k o₀ o) (inners : AllInsides book rows k i₀ i) (begins : AllStarts book rows k s₀ s) where
@@ -31,8 +31,8 @@ module _ {book rows : List ℕ} {k n : ℕ} (counted : GoalsCounted book rows k 
         begin = front-again (starts 0 (uses (admittedOf b) 0 l)) s₀ s (k + 1) (begins .is b l (t .rows-of)) (starts-long 0 (uses (admittedOf b) 0 l) ∙ ap (λ m. m + 1) (uses-long (admittedOf b) 0 l ∙ t .rows-of .count));
       }
 
-  pub stood : FewRows book rows k → Stood book (take (9 * n) w) (take n o) s k
+  pub stood : FewRows book rows k → ThereAlongNeeds book (take (9 * n) w) (take n o) s k
   stood t = record { value = t .value; list = t .list; is = stood-of (t .value) (t .list) (t .is) }
 
-  pub there-confirmed : {witness : List ℕ} {r : Bool} → StoodConfirms book (take (9 * n) w) (take n o) s k witness r → ThereConfirms book rows k witness r
+  pub there-confirmed : {witness : List ℕ} {r : Bool} → ThereAlongSays book (take (9 * n) w) (take n o) s k witness r → ThereCheckSays book rows k witness r
   there-confirmed e = record { exactly = λ b l t. e .exactly b l (stood-of b l t) }

@@ -26,7 +26,7 @@ use Rattle.search_meaning.proofs.InUse.{uses-few}
 use Rattle.search_meaning.proofs.Owners.{owners-long, uses-long}
 use Rattle.search_meaning.proofs.Pairs.{pairs-places}
 use Rattle.witness_check.specs.WayThere.Places.{nowhere, PlaceOf, PairPlaces}
-use Rattle.witness_check.specs.WayThere.Steps.{StoodOf, Stood}
+use Rattle.witness_check.specs.WayThere.Steps.{StoodOf, ThereAlongNeeds}
 use Rattle.witness_check.proofs.WayThere.Named.{pairs-named, named-pairs}
 
 -- A part of another length is none.
@@ -95,5 +95,5 @@ module _ {book target own begins : List ℕ} {k : ℕ} (b : Book) (l : List (Sub
           exactly .1 (subst Maps same (w .2)),
     )
 
-pub stood-sound : {book target own begins : List ℕ} {k : ℕ} → Stood book target own begins k → SomeSound book
+pub stood-sound : {book target own begins : List ℕ} {k : ℕ} → ThereAlongNeeds book target own begins k → SomeSound book
 stood-sound o = record { value = o .value; sound = o .is .list .sound }

@@ -12,5 +12,5 @@ use Rattle.book_codes.specs.FewRows.{FewRowsOf}
 
 module _ (book rows : List ℕ) (k : ℕ) (witness : List ℕ) (answer : Bool) where
   -- "both parts are containment mappings": the second, no byte over and none missing
-  pub record BackConfirms : Type 0 where
+  pub record BackCheckSays : Type 0 where
     pub exactly : (b : Book) (l : List (Subgoal (Term ℕ))) → FewRowsOf book rows k b l → (answer ≡ true) ↔ Back (admittedOf b) (b .question) (rewriting (b .question) l) witness

@@ -11,5 +11,5 @@ use Rattle.spec.specs.Book.{Book, admittedOf}
 use Rattle.book_codes.specs.UsesLent.{SourceUsesOf}
 
 -- as sources
-pub record FromConfirms (book source widths lasts witness : List ℕ) (answer : Bool) : Type 0 where
+pub record BackAlongSays (book source widths lasts witness : List ℕ) (answer : Bool) : Type 0 where
   pub exactly : (b : Book) (l : List (Subgoal (Term ℕ))) → SourceUsesOf book source widths lasts b l → (answer ≡ true) ↔ Back (admittedOf b) (b .question) (rewriting (b .question) l) witness

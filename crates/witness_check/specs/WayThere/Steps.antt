@@ -23,10 +23,10 @@ module _ (book target own begins : List ℕ) (k : ℕ) where
     pub owns : own ≡ owners 0 (uses (admittedOf b) 0 l)
     pub begin : take (k + 1) begins ≡ starts 0 (uses (admittedOf b) 0 l)
 
-  pub record Stood : Type 0 where
+  pub record ThereAlongNeeds : Type 0 where
     pub value : Book
     pub list : List (Subgoal (Term ℕ))
     pub is : StoodOf value list
 
-  pub record StoodConfirms (witness : List ℕ) (answer : Bool) : Type 0 where
+  pub record ThereAlongSays (witness : List ℕ) (answer : Bool) : Type 0 where
     pub exactly : (b : Book) (l : List (Subgoal (Term ℕ))) → StoodOf b l → (answer ≡ true) ↔ There (admittedOf b) (b .question) (rewriting (b .question) l) witness
