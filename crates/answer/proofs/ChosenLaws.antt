@@ -4,12 +4,12 @@ use mathlib.Core.List.{List, [], _∷_, _++_, Memᴰ·of-map, List·Memᴰ·head
 use Prim.Native.Nat.{ℕ, zero, suc, _+_, _*_, _-_, _<_, _≤_}
 use native.Mathlib.Omega.{arith}
 use lib.ListN.{length, getD, take, drop, replicate, length-append, length-map, length-take}
-use lib.Seq.{sets, sets-eq, getD-take}
+use lib.Seq.{sets, getD-take}
 use Rattle.spec.specs.Words.{_∈_, Term, con, Subgoal, becomes}
 use Rattle.spec.specs.Summaries.{SummaryRow}
 use Rattle.spec.specs.Book.{Book, admittedOf}
 use Rattle.spec.specs.BookLayout.{SoundBook}
-use Rattle.spec.specs.Table.{Fault9, mostRows}
+use Rattle.spec.specs.Table.{Fault9}
 use Rattle.spec.proofs.Decided.Rows.{allRows, allRows-sound}
 use Rattle.spec.proofs.Lists.At.{getD-in}
 use Rattle.spec.proofs.Lists.Zeros.{zero-after}
@@ -25,6 +25,7 @@ use Rattle.row_choice.specs.Asked.{ChoiceNeedsOf}
 use Rattle.answer.specs.Picked.{pickedCodes, pickedWidths, PickNeeds}
 use Rattle.answer.specs.Steps.{PutNeeds, AnswerNeeds}
 use Rattle.answer.proofs.PickMeans.{picked-means, widths-mean}
+use Rattle.spec.proofs.Lists.Stores.{stored-front}
 
 -- a summary row is at most as wide as a head
 pub row-narrow : {book : List ℕ} (b : Book) → SoundBook book b → (g : Subgoal (Term ℕ)) → SummaryRow (admittedOf b) (b .question) g → length (g .terms) ≤ 8
@@ -36,10 +37,6 @@ row-narrow b sound g y =
 -- at most 64 rows: no fault 9
 pub few-rows : {book rows : List ℕ} {n : ℕ} (b : Book) → ChoiceNeedsOf book rows n b → Fault9 (admittedOf b) (b .question) → ⊥
 few-rows b a f = let m = fault-9 (admittedOf b) (b .question) (value-safe (a .sound .value)) .0 f in let c = a .count in let s = a .few in omega arith
-
--- what is stored at the start of an area
-pub stored-front : (front before : List ℕ) → length front ≤ length before → sets before 0 front ≡ front ++ drop (length front) before
-stored-front front before h = sets-eq front before 0 (omega arith) ∙ (let z : 0 + length front ≡ length front = omega arith in ap (λ n. front ++ drop n before) z)
 
 -- no number is above 8
 small-at : (front rest : List ℕ) → ((x : ℕ) → x ∈ front → x ≤ 8) → ((j : ℕ) → getD rest j 0 ≡ 0) → (r : ℕ) → getD (front ++ rest) r 0 ≤ 8

@@ -1,18 +1,16 @@
 -- Answer and witness written: what the areas then hold is what is given.
-use mathlib.Core.Path.{_≡_, refl, sym, ap, ap₂, _∙_, subst}
+use mathlib.Core.Path.{_≡_, sym, ap, _∙_}
 use mathlib.Core.Logic.{inl, inr}
 use mathlib.Core.List.{List, _++_, map}
 use Prim.Native.Nat.{ℕ, _+_, _*_, _<_, _≤_}
 use native.Mathlib.Omega.{arith}
 use native.Mathlib.Decide.{decLt}
-use lib.ListN.{length, getD, take, drop, length-append, length-map}
-use lib.Seq.{sets, sets-eq, length-sets, take-append-le, take-all}
+use lib.ListN.{length, getD, take, length-append, length-map}
+use lib.Seq.{sets, length-sets, take-append-le, take-all}
 use Rattle.spec.specs.Words.{_∈_, Term, con, Subgoal, Rule, becomes}
-use Rattle.spec.specs.Summaries.{rewriting}
-use Rattle.spec.specs.Book.{Book, admittedOf}
+use Rattle.spec.specs.Book.{Book}
 use Rattle.spec.specs.Result.{Answered}
 use Rattle.spec.specs.RuleLayout.{ruleBytes, termsBytes, subgoalsBytes}
-use Rattle.spec.specs.BookLayout.{SoundBook}
 use Rattle.spec.specs.Contents.{entriesIn, partAt}
 use Rattle.spec.specs.Refusals.{Loads}
 use Rattle.spec.specs.Table.{Fault1, answerRoom, witnessRoom}
@@ -22,9 +20,9 @@ use Rattle.spec.proofs.Bytes.BookPasses.{book-loads}
 use Rattle.spec.proofs.Bytes.BookStands.{question-part}
 use Rattle.spec.proofs.Bytes.Within.{entries-some}
 use Rattle.spec.proofs.Bytes.Sizes.{terms-size}
-use Rattle.spec.proofs.Lists.Stores.{sets-next}
+use Rattle.spec.proofs.Lists.Stores.{sets-next, stored-front}
 use Rattle.outcomes.proofs.Rooms.{answer-fits, witness-fits}
-use Rattle.outcomes.proofs.Bounds.{book-bounds, rows-bounds}
+use Rattle.outcomes.proofs.Bounds.{book-bounds}
 use Rattle.codes.specs.Code.{termCode, subgoalCodes, codesOf, widthsOf}
 use Rattle.codes.proofs.Padded.{codes-length, padded-length}
 use Rattle.book_codes.specs.RowGiven.{RowOf, RowGiven}
@@ -37,7 +35,6 @@ use Rattle.witness.specs.BackTold.{BackOf, BackSays}
 use Rattle.answer.specs.Bytes.{rewritingBytes, RuleBytesNeeds}
 use Rattle.answer.specs.Steps.{PutNeeds}
 use Rattle.answer.proofs.Means.{RowWithin, rewriting-means}
-use Rattle.answer.proofs.ChosenLaws.{stored-front}
 
 module _ {answer witness : ℕ} (room : Fault1 answer witness → ⊥) where
   pub answer-room : 534 ≤ answer

@@ -20,15 +20,6 @@ pub tag-constant : (code : ℕ) → constantTag ≤ code → 1 ≡ tagOf code
 unfolding tagOf
 tag-constant code h = rw (le-ltb code constantTag h)
 
--- the five stores of a term
-pub five : (l : List ℕ) (at t a b c d : ℕ) → set (set (set (set (set l at t) (at + 1) a) (at + 2) b) (at + 3) c) (at + 4) d ≡ sets l at (t ∷ a ∷ b ∷ c ∷ d ∷ [])
-five l at t a b c d =
-    let e1 : at + 1 ≡ suc at = omega arith in
-    let e2 : at + 2 ≡ suc (suc at) = omega arith in
-    let e3 : at + 3 ≡ suc (suc (suc at)) = omega arith in
-    let e4 : at + 4 ≡ suc (suc (suc (suc at))) = omega arith in
-    rw (e1, e2, e3, e4)
-
 pub codes-long : (codes : List ℕ) → length (codesBytes codes) ≡ 5 * length codes
 codes-long [] = refl
 codes-long (w ∷ codes) = omega (arith, length-append (codeBytes w) (codesBytes codes), codes-long codes, length-little 4 (w % 4294967296))
@@ -63,14 +54,6 @@ terms-done out codes at from k i e = ap (λ n. sets out at (codesBytes (take n (
 -- a row's number, then its terms
 pub row-stored : (out codes : List ℕ) (at r wide : ℕ) → sets (set out at (getD codes (9 * r) 0 % 256)) (at + 1) (codesBytes (take wide (drop (9 * r + 1) codes))) ≡ sets out at (rowBytes codes r wide)
 row-stored out codes at r wide = ap (λ p. sets (set out at (getD codes (9 * r) 0 % 256)) p (codesBytes (take wide (drop (9 * r + 1) codes)))) (add-one at)
-
--- one byte more
-pub byte-stored : (out bytes : List ℕ) (at from i : ℕ) → from + i < length bytes
-    → set (sets out at (take i (drop from bytes))) (at + i) (getD bytes (from + i) 0) ≡ sets out at (take (i + 1) (drop from bytes))
-byte-stored out bytes at from i h =
-    let l : i < length (drop from bytes) = omega (arith, length-drop from bytes) in
-    sets-next out at (at + i) (take i (drop from bytes)) (getD bytes (from + i) 0 ∷ []) (omega (arith, length-take-le i (drop from bytes) (omega arith)))
-    ∙ ap (sets out at) (sym (ap (λ k. take k (drop from bytes)) (add-one i) ∙ take-suc (drop from bytes) i 0 l ∙ ap (λ x. take i (drop from bytes) ++ (x ∷ [])) (getD-drop from bytes i 0)))
 
 -- one row more
 rows-snoc : (codes widths : List ℕ) (r k : ℕ) → rowsBytes codes widths r (suc k) ≡ rowsBytes codes widths r k ++ rowBytes codes (r + k) (getD widths (r + k) 0)

@@ -21,7 +21,7 @@ use Rattle.book_codes.specs.RowsGiven.{RowsGiven}
 use Rattle.book_codes.specs.Insides.{insides}
 use Rattle.book_codes.specs.AllUses.{GoalsCounted, AllCodes, AllOwners, AllInsides, AllWidths, AllEnds}
 use Rattle.book_codes.specs.FewRows.{FewRowsOf, FewRows, ListOf}
-use Rattle.book_codes.specs.UsesLent.{TargetUsesOf, TargetUses}
+use Rattle.book_codes.specs.UsesLent.{TargetUsesOf, InnerUsesOf, InnerUses}
 use Rattle.book_codes.proofs.Read.{insides-long}
 
 module _ {book rows : List ℕ} {k : ℕ} where
@@ -66,14 +66,20 @@ module _ {book rows : List ℕ} {k : ℕ} where
       ends-kept wide e = front-long t before after (endsOf (uses (admittedOf (t .value)) 0 (t .list))) wide (ends-long (uses (admittedOf (t .value)) 0 (t .list)) ∙ sym (many (t .value) (t .list) (t .is))) (e .is (t .value) (t .list) (t .is .rows-of))
 
     -- as targets
-    module _ {o₀ o w₀ w i₀ i : List ℕ} (codes : AllCodes book rows k ownCode w₀ w) (owns : AllOwners book rows k o₀ o) (inners : AllInsides book rows k i₀ i) where
-      pub onto-of : (b : Book) (l : List (Subgoal (Term ℕ))) → FewRowsOf book rows k b l → TargetUsesOf book (take (9 * n) w) (take n o) (take n i) b l
-      onto-of b l t = record {
+    module _ {o₀ o w₀ w : List ℕ} (codes : AllCodes book rows k ownCode w₀ w) (owns : AllOwners book rows k o₀ o) where
+      pub targets-of : (b : Book) (l : List (Subgoal (Term ℕ))) → FewRowsOf book rows k b l → TargetUsesOf book (take (9 * n) w) (take n o) b l
+      targets-of b l t = record {
         list = list-of t;
         codes = front-again (codesOf ownCode (all b l t)) w₀ w (9 * n) (codes .is b l (t .rows-of)) (omega (arith, codes-length ownCode (all b l t), many b l t));
         owns = front-again (owners 0 (uses (admittedOf b) 0 l)) o₀ o n (owns .is b l (t .rows-of)) (owners-long 0 (uses (admittedOf b) 0 l) ∙ sym (many b l t));
+      }
+
+    module _ {o₀ o w₀ w i₀ i : List ℕ} (codes : AllCodes book rows k ownCode w₀ w) (owns : AllOwners book rows k o₀ o) (inners : AllInsides book rows k i₀ i) where
+      pub onto-of : (b : Book) (l : List (Subgoal (Term ℕ))) → FewRowsOf book rows k b l → InnerUsesOf book (take (9 * n) w) (take n o) (take n i) b l
+      onto-of b l t = record {
+        targets = targets-of codes owns b l t;
         inners = front-again (insides (uses (admittedOf b) 0 l)) i₀ i n (inners .is b l (t .rows-of)) (insides-long (uses (admittedOf b) 0 l) ∙ sym (many b l t));
       }
 
-      unfoldable pub onto : FewRows book rows k → TargetUses book (take (9 * n) w) (take n o) (take n i)
+      unfoldable pub onto : FewRows book rows k → InnerUses book (take (9 * n) w) (take n o) (take n i)
       onto t = record { value = t .value; list = t .list; is = onto-of (t .value) (t .list) (t .is) }

@@ -10,7 +10,7 @@ use Rattle.spec.specs.Words.{Term, Subgoal}
 use Rattle.spec.specs.Summaries.{orEmpty, Own, inPlace, uses, joined}
 use Rattle.spec.specs.Book.{Book, admittedOf}
 use Rattle.spec.specs.Given.{atFront}
-use Rattle.spec.proofs.Lists.Places.{getD-in}
+use Rattle.spec.proofs.Lists.At.{getD-in}
 use Rattle.spec.proofs.Lists.Parts.{to-end}
 use Rattle.choice_theory.specs.Numbered.{nothing, rowAt}
 use Rattle.codes.specs.Code.{termCode, subgoalCodes, codesOf, widthsOf}
@@ -21,7 +21,8 @@ use Rattle.book_codes.specs.RowGiven.{RowOf, RowGiven}
 use Rattle.book_codes.specs.OneUse.{OneUse, OneWidths}
 use Rattle.book_codes.specs.RowsGiven.{RowsOf, RowsGiven}
 use Rattle.book_codes.specs.AllUses.{GoalsCounted}
-use Rattle.book_codes.proofs.Spread.{spread, codesEach, widthsEach, spread-more, spread-long, joined-more, uses-more}
+use Rattle.book_codes.proofs.Spread.{spread, codesEach, widthsEach, spread-more, spread-long, uses-more}
+use Rattle.spec.proofs.Lists.Joined.{joined-more}
 
 -- the codes of the row of that number, and what is behind
 abbrev pub rowFrom : List ℕ → ℕ → List ℕ
@@ -49,7 +50,7 @@ module _ {book rows : List ℕ} {n : ℕ} where
     pub row-of : (r : ℕ) → r < n → RowOf book (rowFrom rows r) b (rowAt l r)
     row-of r h =
         let less : r < length l = let c = w .count in omega arith in
-        let m = getD-in l r nothing less in
+        let m = getD-in nothing l r less in
         let o = w .within .over (rowAt l r) m in
         record {
           sound = w .sound;

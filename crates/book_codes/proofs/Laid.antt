@@ -6,19 +6,17 @@ use native.Mathlib.Omega.{arith}
 use lib.ListN.{length, getD}
 use Rattle.spec.specs.Words.{_∈_, var}
 use Rattle.spec.specs.Book.{Book}
-use Rattle.spec.specs.RuleLayout.{Layout}
 use Rattle.spec.specs.BookLayout.{SoundBook, questionMost}
 use Rattle.spec.specs.Contents.{entriesIn, partAt}
 use Rattle.spec.specs.Refusals.{Loads}
 use Rattle.spec.proofs.Decided.Equal.{decEqual, eqTerm, eqNumber}
-use Rattle.spec.proofs.Bytes.BookPasses.{book-loads, question-reads}
+use Rattle.spec.proofs.Bytes.BookPasses.{book-loads, question-reads, question-laid}
 use Rattle.spec.proofs.Lists.Finite.{is-in}
 use Rattle.spec.proofs.Bytes.Within.{entries-some}
 use Rattle.codes.specs.Code.{slotCode, termCode}
 use Rattle.rule_codes.specs.Laid.{Laid, LaidFor}
 use Rattle.rule_codes.specs.Promises.{BodyCodes, BodyWidths}
 use Rattle.rule_codes.specs.Heads.{HeadBindings}
-use Rattle.search_meaning.specs.HeadBound.{HeadBound}
 use Rattle.book_codes.specs.Question.{SomeSound, QuestionSource, QuestionTarget, QuestionBound}
 
 module _ {book : List ℕ} (w : SomeSound book) where
@@ -42,20 +40,17 @@ module _ {book : List ℕ} (w : SomeSound book) where
         ]
 
     module _ {relations : List ℕ} (first : relations ≡ partAt book 0) where
-      layout-is : (b : Book) → SoundBook book b → Layout relations questionMost body (b .question)
-      layout-is b s = rw (first, part) (question-reads s)
-
       pub laid-for : (each area : ℕ) → ((n : ℕ) → n ≤ 12 → each * n ≤ area) → LaidFor relations body each area
       laid-for each area room =
-          let l = layout-is (w .value) (w .sound) in
+          let l = question-laid first part (w .value) (w .sound) in
           record { most = questionMost; rule = w .value .question; layout = l; room = room (length (w .value .question .body)) (l .within .few) }
 
       pub source-is : {before after old new : List ℕ} {n : ℕ} → BodyCodes relations body slotCode before after n → BodyWidths relations body old new n → QuestionSource book before after old new n
       source-is f g = record {
-        count = λ b s. f .count questionMost (b .question) (layout-is b s);
-        codes = λ b s. f .codes questionMost (b .question) (layout-is b s);
-        widths = λ b s. g .widths questionMost (b .question) (layout-is b s);
+        count = λ b s. f .count questionMost (b .question) (question-laid first part b s);
+        codes = λ b s. f .codes questionMost (b .question) (question-laid first part b s);
+        widths = λ b s. g .widths questionMost (b .question) (question-laid first part b s);
       }
 
       pub target-is : {before after : List ℕ} {n : ℕ} → BodyCodes relations body termCode before after n → QuestionTarget book before after n
-      target-is f = record { count = λ b s. f .count questionMost (b .question) (layout-is b s); codes = λ b s. f .codes questionMost (b .question) (layout-is b s) }
+      target-is f = record { count = λ b s. f .count questionMost (b .question) (question-laid first part b s); codes = λ b s. f .codes questionMost (b .question) (question-laid first part b s) }

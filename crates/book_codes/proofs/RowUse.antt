@@ -1,26 +1,25 @@
 -- A row's summary stands in the book, and its use is one that the builders take.
-use mathlib.Core.Path.{_≡_, refl, sym, ap, subst, _∙_}
+use mathlib.Core.Path.{_≡_, sym, ap, subst, _∙_}
 use mathlib.Core.Option.{some}
 use mathlib.Core.List.{List, [], _∷_, map}
-use Prim.Native.Nat.{ℕ, zero, suc, _+_, _*_, _-_, _<_, _≤_}
+use Prim.Native.Nat.{ℕ, suc, _+_, _-_, _<_, _≤_}
 use native.Mathlib.Omega.{arith}
-use lib.ListN.{length, getD, take, drop, length-take, length-drop, length-map}
+use lib.ListN.{length, getD, take, drop, length-take, length-map}
 use lib.Seq.{getD-take, take-all, take-take}
 use Rattle.spec.specs.Words.{Term, con, Subgoal, Rule, DistinctVariables, each, becomes}
-use Rattle.spec.specs.Summaries.{place, summary, orEmpty, definition, Own, inUse, inPlace}
+use Rattle.spec.specs.Summaries.{place, orEmpty, definition, Own, inUse, inPlace}
 use Rattle.spec.specs.Book.{Summary, Book, admittedOf}
 use Rattle.spec.specs.RuleLayout.{Layout}
-use Rattle.spec.specs.BookLayout.{entries, summaryMost, SoundSummary}
+use Rattle.spec.specs.BookLayout.{SoundSummary}
 use Rattle.spec.specs.Contents.{entriesIn, partAt}
 use Rattle.spec.specs.Refusals.{Loads, mostAt}
 use Rattle.spec.specs.Given.{atFront}
-use Rattle.spec.proofs.Lists.Counted.{place-within}
-use Rattle.spec.proofs.Lists.Places.{place-in}
+use Rattle.spec.proofs.Lists.Counted.{place-within, place-in}
 use Rattle.spec.proofs.Bytes.Within.{entries-are, entries-some, loads-few}
 use Rattle.spec.proofs.Bytes.BookStands.{book-entries}
 use Rattle.spec.proofs.Bytes.BookPasses.{book-loads, summary-reads}
 use Rattle.containment.proofs.Sound.{admitted-place}
-use Rattle.codes.specs.Code.{termCode, padded, subgoalCodes, codesOf, widthsOf}
+use Rattle.codes.specs.Code.{termCode, padded, widthsOf}
 use Rattle.codes.proofs.Padded.{padded-length, padded-front}
 use Rattle.rule_codes.specs.Laid.{Laid, LaidFor, UseOf, UseFor}
 use Rattle.rule_codes.specs.Promises.{GoalCount, BodyWidths}
@@ -45,7 +44,7 @@ module _ {book row : List ℕ} {b : Book} {g : Subgoal (Term ℕ)} (w : RowOf bo
   found = admitted-place (b .need) (b .summaries) (g .relation) rule (w .over .admitted)
 
   sound : SoundSummary (b .arities) (found .0)
-  sound = w .sound .value .summaries (found .0) (place-in (b .summaries) (g .relation) (found .0) (found .1))
+  sound = w .sound .value .summaries (found .0) (place-in (b .summaries) (g .relation) (found .1))
 
   plain : DistinctVariables (rule .head)
   plain = subst (λ (r : Rule ℕ). DistinctVariables (r .head)) (found .2) (sound .plain)

@@ -75,10 +75,6 @@ module _ {A : Type 0} where
   ends-spread u [] = refl
   ends-spread u (m ∷ ls) = ap (λ w. endOf (length m) ++ w) (ends-spread (suc u) ls)
 
-pub joined-more : {A : Type 0} (ls : List (List A)) (m : List A) → joined (ls ++ (m ∷ [])) ≡ joined ls ++ m
-joined-more [] m = append-nil m
-joined-more (k ∷ ls) m = ap (λ l. k ++ l) (joined-more ls m) ∙ sym (append-assoc k (joined ls) m)
-
 -- one row more
 pub uses-more : (s : Summaries) (u : ℕ) (l : List (Subgoal (Term ℕ))) (g : Subgoal (Term ℕ)) → uses s u (l ++ (g ∷ [])) ≡ uses s u l ++ (inPlace s (u + length l) g ∷ [])
 uses-more s u [] g = let e : u ≡ u + 0 = omega arith in ap (λ v. inPlace s v g ∷ []) e

@@ -21,10 +21,10 @@ use Rattle.search_meaning.proofs.Owners.{owners-long, owners-below}
 use Rattle.search_meaning.proofs.Into.{there-sized}
 use Rattle.search_meaning.proofs.There.{there-is, there-first, there-some}
 use Rattle.book_codes.specs.Question.{SomeSound, QuestionSource, QuestionBound}
-use Rattle.book_codes.specs.UsesLent.{TargetUsesOf, TargetUses}
+use Rattle.book_codes.specs.UsesLent.{TargetUsesOf, InnerUses}
 use Rattle.book_codes.proofs.Lent.{goals-few, source-codes, source-widths}
 
-module _ {book target own inner : List ℕ} (b : Book) (l : List (Subgoal (Term ℕ))) (o : TargetUsesOf book target own inner b l)
+module _ {book target own : List ℕ} (b : Book) (l : List (Subgoal (Term ℕ))) (o : TargetUsesOf book target own b l)
     {before after old new : List ℕ} {n : ℕ} (source : QuestionSource book before after old new n) {bound : List ℕ} (heads : QuestionBound book bound) where
   abbrev s : Summaries
   s = admittedOf b
@@ -80,5 +80,5 @@ module _ {book target own inner : List ℕ} (b : Book) (l : List (Subgoal (Term 
   pub there-firsts : (places : List ℕ) → FirstMapped lent bound places → FirstThere s (b .question) (rewriting (b .question) l) (pairsOf ls places)
   there-firsts places f = there-first (b .arities) s (b .question) bounds l (o .list .within) lasts own bound owned head places .0 (subst (λ t. FirstMapped t bound places) task-is f)
 
-pub some-sound : {book target own inner : List ℕ} → TargetUses book target own inner → SomeSound book
-some-sound o = record { value = o .value; sound = o .is .list .sound }
+pub some-sound : {book target own inner : List ℕ} → InnerUses book target own inner → SomeSound book
+some-sound o = record { value = o .value; sound = o .is .targets .list .sound }

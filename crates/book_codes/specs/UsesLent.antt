@@ -11,18 +11,23 @@ use Rattle.search_meaning.specs.Uses.{endsOf}
 use Rattle.book_codes.specs.Insides.{insides}
 use Rattle.book_codes.specs.FewRows.{ListOf}
 
-module _ (book target own inner : List ℕ) where
-  -- as targets: codes, the use of each, and its place there
+module _ (book target own : List ℕ) where
+  -- as targets: codes, and the use of each
   pub record TargetUsesOf (b : Book) (l : List (Subgoal (Term ℕ))) : Type 0 where
     pub list : ListOf book b l
     pub codes : target ≡ codesOf ownCode (joined (uses (admittedOf b) 0 l))
     pub owns : own ≡ owners 0 (uses (admittedOf b) 0 l)
+
+module _ (book target own inner : List ℕ) where
+  -- .. and the place of each in its use
+  pub record InnerUsesOf (b : Book) (l : List (Subgoal (Term ℕ))) : Type 0 where
+    pub targets : TargetUsesOf book target own b l
     pub inners : inner ≡ insides (uses (admittedOf b) 0 l)
 
-  pub record TargetUses : Type 0 where
+  pub record InnerUses : Type 0 where
     pub value : Book
     pub list : List (Subgoal (Term ℕ))
-    pub is : TargetUsesOf value list
+    pub is : InnerUsesOf value list
 
 module _ (book source widths lasts : List ℕ) where
   -- as sources: codes, how many terms each has, and whether it ends its use

@@ -17,7 +17,7 @@ use Rattle.spec.specs.Given.{atFront}
 use Rattle.spec.specs.Truth.{RewritingRule}
 use Rattle.spec.proofs.Bytes.RuleLaws.{layout-unique}
 use Rattle.spec.proofs.Bytes.BookPasses.{question-reads}
-use Rattle.spec.proofs.Lists.Places.{place-of, getD-in}
+use Rattle.spec.proofs.Lists.At.{getD-in, in-getD}
 use Rattle.spec.proofs.Lists.Tests.{says-both}
 use Rattle.choice_theory.specs.Numbered.{nothing}
 use Rattle.outcomes.proofs.AsRule.{width-is, laid-out}
@@ -82,7 +82,7 @@ module _ {book rewriting lengths : List ℕ} (g : RowsReadNeeds book rewriting l
       module _ (t : r ≡ true) where
         over-all : (b : Book) → SoundBook book b → OverAll (admittedOf b) (g .rule)
         over-all b s x m =
-            let p = place-of nothing m in
+            let p = in-getD nothing _ m in
             let a = says .exactly b s .0 t (p .0) (omega (arith, count-is, p .1)) in
             let number : getD codes (9 * p .0) 0 ≡ x .relation = number-at (p .0) (p .1) ∙ ap (λ y. y .relation) (p .2) in
             let admitted : summary (admittedOf b) (x .relation) ≡ some (a .0) = subst (λ k. summary (admittedOf b) k ≡ some (a .0)) number (a .1) in
@@ -112,4 +112,4 @@ module _ {book rewriting lengths : List ℕ} (g : RowsReadNeeds book rewriting l
           never b s rule is written =
               let same : g .rule ≡ rule = layout-unique lengths questionMost rewriting (g .rule) rule (g .layout) (over-lengths (g .heads) b s rule is written) in
               let over : OverAll (admittedOf b) (g .rule) = subst (OverAll (admittedOf b)) (sym same) (is .over) in
-              says-both (says .exactly b s .1 (λ k h. let l : k < length (g .rule .body) = omega (arith, count-is) in let o = over (getD (g .rule .body) k nothing) (getD-in (g .rule .body) k nothing l) in (o .rule, rw (number-at k l) (o .admitted)))) f
+              says-both (says .exactly b s .1 (λ k h. let l : k < length (g .rule .body) = omega (arith, count-is) in let o = over (getD (g .rule .body) k nothing) (getD-in nothing (g .rule .body) k l) in (o .rule, rw (number-at k l) (o .admitted)))) f

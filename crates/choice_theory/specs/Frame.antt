@@ -16,10 +16,7 @@ use Rattle.choice_theory.specs.Numbered.{RowList, rowAt, rowsAt, Numbers
 use Rattle.choice_theory.specs.Rewritten.{rowsAt-before, works-rewrites, rewrites-numbers}
 use Rattle.choice_theory.specs.Can.{Can}
 use Rattle.choice_theory.specs.Going.{AtLeast, BeginsWith, Past, PassState}
-
-empty : (t : List ℕ) → length t ≤ 0 → t ≡ []
-empty [] h = refl
-empty (y ∷ t) h = absurd (omega arith)
+use Rattle.spec.proofs.Lists.At.{empty}
 
 -- after the same beginning a lesser number
 lesser : (p t y : List ℕ) (n m : ℕ) → n < m → ListBefore _<_ (p ++ (n ∷ t)) (p ++ (m ∷ y))

@@ -1,18 +1,15 @@
 -- Used rows and rows that may be used: more of them, the same, none at a cost.
 use mathlib.Core.Logic.{inl, inr, ⊎-elim, _↔_}
-use mathlib.Core.List.{List, [], _∷_, List·Memᴰ·not-nil}
+use mathlib.Core.List.{[], List·Memᴰ·not-nil}
 use Prim.Native.Nat.{ℕ, _≤_, _<_}
 use native.Mathlib.Omega.{arith}
 use lib.ListN.{length}
-use Rattle.spec.specs.Words.{_∈_, Rule}
+use Rattle.spec.specs.Words.{Rule}
 use Rattle.spec.specs.Summaries.{Summaries}
 use Rattle.choice_theory.specs.Numbered.{RowList, WorksOn}
 use Rattle.choice_theory.specs.Works.{works-more}
 use Rattle.choice_theory.specs.Can.{CanBy}
-
-none-in : (l : List ℕ) (u : ℕ) → length l ≤ 0 → u ∈ l → ⊥
-none-in [] u h i = List·Memᴰ·not-nil i
-none-in (v ∷ l) u h i = omega arith
+use Rattle.spec.proofs.Lists.At.{none-in}
 
 module _ (s : Summaries) (q : Rule ℕ) (rows : RowList) where
   pub can-more : {used used′ may may′ : ℕ → Type 0} {b c : ℕ} → ((u : ℕ) → u < length rows → used u → used′ u) → ((u : ℕ) → u < length rows → may u → may′ u) → b ≤ c

@@ -50,11 +50,11 @@ extended ν own (old x) = ν x
 extended ν own (fresh u x) = own u x
 
 module _ {A X : Type 0} (k : ℕ → A) (s : Summaries) (d : Facts A) (ν : X → A) where
-  abbrev Given : List (Subgoal (Term X)) → Type 0
-  Given gs = (g : Subgoal (Term X)) → g ∈ gs → Yielded k s d (each (becomes k ν) g)
+  abbrev AllYielded : List (Subgoal (Term X)) → Type 0
+  AllYielded gs = (g : Subgoal (Term X)) → g ∈ gs → Yielded k s d (each (becomes k ν) g)
 
   -- The values of each use's own variables.
-  abbrev owns : (gs : List (Subgoal (Term X))) → Given gs → ℕ → ℕ → A
+  abbrev owns : (gs : List (Subgoal (Term X))) → AllYielded gs → ℕ → ℕ → A
   owns [] h j x = k 0
   owns (g ∷ gs) h zero x = its-yield s (each (becomes k ν) g) (h g (List·Memᴰ·head refl)) .value x
   owns (g ∷ gs) h (suc j) x = owns gs (λ b m. h b (List·Memᴰ·tail m)) j x
@@ -62,7 +62,7 @@ module _ {A X : Type 0} (k : ℕ → A) (s : Summaries) (d : Facts A) (ν : X �
   abbrev Owned : (ℕ → A) → Subgoal (Term X) → Type 0
   Owned own g = (y : Yields k (definition s (g .relation)) d (map (becomes k ν) (g .terms))) × ((x : ℕ) → own x ≡ y .value x)
 
-  owned : (gs : List (Subgoal (Term X))) (h : Given gs) (j : ℕ) (g : Subgoal (Term X)) → place gs (suc j) ≡ some g → Owned (owns gs h j) g
+  owned : (gs : List (Subgoal (Term X))) (h : AllYielded gs) (j : ℕ) (g : Subgoal (Term X)) → place gs (suc j) ≡ some g → Owned (owns gs h j) g
   owned [] h j g e = absurd (Option·none-ne-some g e)
   owned (b ∷ gs) h zero g e = subst (Owned (owns (b ∷ gs) h zero)) (Option·some-injective b g e) (its-yield s (each (becomes k ν) b) (h b (List·Memᴰ·head refl)), λ x. refl)
   owned (b ∷ gs) h (suc j) g e = owned gs (λ b m. h b (List·Memᴰ·tail m)) j g e

@@ -11,7 +11,7 @@ use lib.ListN.{length, length-map}
 use borrow.Author.Tests.{eqb-true, eqb-false, ne-eqb, eq-eqb}
 use Rattle.spec.specs.Words.{_∈_, Term, var, con, Subgoal, Rule, DistinctVariables, Facts, becomes, Yields}
 use Rattle.spec.specs.Summaries.{Summaries, summary, orEmpty, definition, Yielded, Own, fresh, replaced, kept, inUse, Over, OverAll}
-use Rattle.spec.proofs.Lists.Gathered.{map-same}
+use Rattle.spec.proofs.Lists.Gathered.{map-same, map-itself}
 use Rattle.containment.proofs.Carry.{terms-after}
 use Rattle.containment.proofs.Held.{Every, yielded-more}
 
@@ -37,10 +37,6 @@ terms-agree {A} {X} k f g ts same = map-same (becomes k f) (becomes k g) ts at
     at : (t : Term X) → t ∈ ts → becomes k f t ≡ becomes k g t
     at (var x) m = same x m
     at (con c) m = refl
-
-map-itself : {A : Type 0} (l : List A) → map (λ a. a) l ≡ l
-map-itself [] = refl
-map-itself (a ∷ l) = ap (_∷_ a) (map-itself l)
 
 -- What stands for a variable of the head becomes its value; so does what stands for another, if `other` does.
 module _ {A B : Type 0} (h : B → A) (k v : ℕ → A) where

@@ -1,20 +1,19 @@
 -- The start of the pass, a row tried, the end.
-use mathlib.Core.Path.{_≡_, refl, sym, ap, _∙_, subst}
+use mathlib.Core.Path.{_≡_, refl, sym, ap, _∙_}
 use mathlib.Core.Bool.{Bool, true, false, cond, true≢false}
-use mathlib.Core.Logic.{_⊎_, inl, inr, ⊎-elim, _↔_}
+use mathlib.Core.Logic.{_⊎_, ⊎-elim, _↔_}
 use mathlib.Core.List.{List, [], _∷_, _++_}
 use Prim.Native.Nat.{ℕ, zero, suc, _+_, _-_, _<_, _≤_}
 use native.Mathlib.Omega.{arith}
 use native.Mathlib.Decide.{ℕ-discrete}
 use native.Mathlib.Numerals.{add-one}
-use lib.ListN.{length, take, drop, replicate, set, length-replicate, length-set}
+use lib.ListN.{length, take, drop, replicate, set, length-set}
 use lib.Seq.{take-suc-set, drop-set-lt, length-take-le}
-use Rattle.spec.specs.Words.{_∈_, Rule}
+use Rattle.spec.specs.Words.{Rule}
 use Rattle.spec.specs.Summaries.{Summaries}
-use Rattle.spec.specs.Answer.{Rewrites}
 use Rattle.choice_theory.specs.Numbered.{RowList}
-use Rattle.choice_theory.specs.Can.{Can, CanBy}
-use Rattle.choice_theory.specs.Going.{AtLeast, PassState}
+use Rattle.choice_theory.specs.Can.{Can}
+use Rattle.choice_theory.specs.Going.{AtLeast}
 use Rattle.choice_theory.specs.Marked.{Marked, marked-start, marked-taken, marked-passed, marked-can}
 use Rattle.choice_theory.specs.Frame.{going-start, going-within, going-taken, going-passed, going-answer}
 use Rattle.choice_theory.specs.Fewest.{at-least-start, at-least-next, at-least-none}
@@ -25,11 +24,11 @@ use Rattle.task.specs.Task.{Task}
 use Rattle.task.specs.Mapped.{Feasible}
 use Rattle.placing.specs.FirstPlaces.{Enough}
 use Rattle.first_shortest.specs.Posed.{PosedBy, Posed}
-use Rattle.first_shortest.specs.Chosen.{Found, NotFound, ChosenBy, ChoiceSays}
-use Rattle.first_shortest.specs.Passing.{nothing, found, starting, taking, passing, Fewest, Tried, UnderwayBy, Underway}
-use Rattle.first_shortest.specs.declared.Chosen.{Chosen}
+use Rattle.first_shortest.specs.Chosen.{ChoiceSays}
+use Rattle.first_shortest.specs.Passing.{nothing, found, starting, taking, passing, Fewest, Tried, Underway}
 use Rattle.first_shortest.specs.declared.Pass.{Pass}
 use Rattle.first_shortest.proofs.Tests.{feasible-can}
+use Rattle.spec.proofs.Lists.Zeros.{drop-next}
 
 -- before the first row: of n rows none is used, all may be
 module _ {s : Summaries} {q : Rule ℕ} {rows : RowList} {t : Task} {b : List ℕ} {n : ℕ} (p : PosedBy s q rows t b n) where
@@ -114,12 +113,6 @@ module _ {t : Task} {b : List ℕ} {row : ℕ} {p after : Pass} {used may : ℕ}
 
   pub tried-passed : a ≡ false → after ≡ passing p row → Tried t b row p after
   tried-passed z r = record { answer = false; exactly = rw (us, ms, z) at e; result = r }
-
-drop-next : (m : ℕ) (l : List ℕ) (k : ℕ) → drop k l ≡ replicate (suc m) 0 → drop (suc k) l ≡ replicate m 0
-drop-next m [] zero e = cc
-drop-next m [] (suc k) e = cc
-drop-next m (x ∷ l) zero e = cc
-drop-next m (x ∷ l) (suc k) e = drop-next m l k e
 
 module _ {t : Task} {b : List ℕ} {n row : ℕ} {p : Pass} (w : Underway t b n row p) where
   pub underway-within : Posed t b n → 0 < p .left → row < n

@@ -6,4 +6,3 @@ pub mod Looking
 pub mod Taken
 pub mod Total
 pub mod Unique
-pub mod Without

@@ -3,17 +3,16 @@ use mathlib.Core.Path.{_≡_, refl, sym, subst, _∙_}
 use mathlib.Core.Logic.{_⊎_, inl, inr}
 use mathlib.Core.Bool.{Bool, true, false, cond, true≢false}
 use mathlib.Core.List.{List, [], _∷_, List·Memᴰ·head, List·Memᴰ·tail, List·Memᴰ·not-nil}
-use Prim.Native.Nat.{ℕ, _-_, _≤_}
+use Prim.Native.Nat.{ℕ, _-_}
 use native.Mathlib.Omega.{arith}
 use native.Mathlib.Decide.{ℕ-discrete}
-use lib.ListN.{length}
 use Rattle.spec.specs.Words.{_∈_}
 use Rattle.bits.specs.Sets.{Has, has, with}
 use Rattle.bits.proofs.Laws.{has-true, true-has, with-new, with-old, with-cases}
 use Rattle.task.specs.Task.{Task, rowOf}
 use Rattle.task.specs.Mapped.{InRows}
 use Rattle.lookahead.specs.Taking.{Enters, leftAfter, Affords}
-use Rattle.lookahead.proofs.Without.{without, without-long, without-out, without-in}
+use Rattle.spec.proofs.Lists.Lacking.{lacking, lacking-long, lacking-out, lacking-in}
 
 -- what entering makes of the rows left
 left-free : (used left row : ℕ) → Has used row → leftAfter used left row ≡ left
@@ -45,20 +44,20 @@ module _ (p : Task) (used may left k : ℕ) (l : List ℕ) where
       free : Has used (rowOf p k) → InRows p (with used (rowOf p k)) may (leftAfter used left (rowOf p k)) l
       free h = record { taken = r .taken; few = omega (arith, r .few, left-free used left (rowOf p k) h); allowed = r .allowed; each = λ j m. grown (rowOf p j) (r .each j (List·Memᴰ·tail m)) }
 
-      kept : (m : rowOf p k ∈ r .taken) (j : ℕ) → Has used j ⊎ (j ∈ r .taken) → Has (with used (rowOf p k)) j ⊎ (j ∈ without (rowOf p k) (r .taken) m)
+      kept : (m : rowOf p k ∈ r .taken) (j : ℕ) → Has used j ⊎ (j ∈ r .taken) → Has (with used (rowOf p k)) j ⊎ (j ∈ lacking (rowOf p k) (r .taken) m)
       kept m j (inl h) = inl (with-old used (rowOf p k) j h)
       kept m j (inr n) = elim (ℕ-discrete j (rowOf p k)) [
         | yes e ↦ inl (rw e (with-new used (rowOf p k)))
-        | no d ↦ inr (without-in (rowOf p k) (r .taken) m j d n)
+        | no d ↦ inr (lacking-in (rowOf p k) (r .taken) m j d n)
       ]
 
       paid : (Has used (rowOf p k) → ⊥) → Has used (rowOf p k) ⊎ (rowOf p k ∈ r .taken) → InRows p (with used (rowOf p k)) may (leftAfter used left (rowOf p k)) l
       paid f (inl h) = absurd (f h)
       paid f (inr m) =
           record {
-            taken = without (rowOf p k) (r .taken) m;
-            few = omega (arith, r .few, left-paid used left (rowOf p k) f, without-long (rowOf p k) (r .taken) m);
-            allowed = λ j n. r .allowed j (without-out (rowOf p k) (r .taken) m j n);
+            taken = lacking (rowOf p k) (r .taken) m;
+            few = omega (arith, r .few, left-paid used left (rowOf p k) f, lacking-long (rowOf p k) (r .taken) m);
+            allowed = λ j n. r .allowed j (lacking-out (rowOf p k) (r .taken) m j n);
             each = λ j n. kept m (rowOf p j) (r .each j (List·Memᴰ·tail n));
           }
 
@@ -67,7 +66,7 @@ module _ (p : Task) (used may left k : ℕ) (l : List ℕ) where
     where
       go : Has used (rowOf p k) ⊎ (rowOf p k ∈ r .taken) → Enters used may left (rowOf p k)
       go (inl h) = inl h
-      go (inr m) = inr (r .allowed (rowOf p k) m, omega (arith, r .few, without-long (rowOf p k) (r .taken) m))
+      go (inr m) = inr (r .allowed (rowOf p k) m, omega (arith, r .few, lacking-long (rowOf p k) (r .taken) m))
 
   -- and back: the first target's row is in use already, or is one more that is taken
   pub rows-cons : Enters used may left (rowOf p k) → InRows p (with used (rowOf p k)) may (leftAfter used left (rowOf p k)) l → InRows p used may left (k ∷ l)

@@ -9,7 +9,7 @@ use Rattle.spec.specs.Summaries.{Summaries, SummaryRow}
 use Rattle.spec.specs.Book.{Summary, Book, admittedOf}
 use Rattle.spec.specs.RuleLayout.{TermWithin, TermsWithin, RuleWithin}
 use Rattle.spec.specs.BookLayout.{Arities, SoundValue, SoundSummary, summaryMost}
-use Rattle.spec.proofs.Lists.Places.{getD-in}
+use Rattle.spec.proofs.Lists.At.{getD-in}
 use Rattle.containment.proofs.Held.{Every}
 use Rattle.containment.proofs.Sound.{admitted-from}
 use Rattle.outcomes.specs.Bounds.{Bounds, RowsWithin}
@@ -29,7 +29,7 @@ book-bounds b sound = record {
 -- A subgoal that fits has at most eight terms; two that fit and have one relation are as long as each other.
 module _ (arities : List ℕ) (a : Arities arities) where
   pub fits-room : {A : Type 0} (g : Subgoal A) → Fits arities g → length (g .terms) ≤ 8
-  fits-room g f = let w = a .range (getD arities (g .relation) 0) (getD-in arities (g .relation) 0 (f .known)) in omega (arith, f .long)
+  fits-room g f = let w = a .range (getD arities (g .relation) 0) (getD-in 0 arities (g .relation) (f .known)) in omega (arith, f .long)
 
 pub fits-alike : {A B : Type 0} (arities : List ℕ) (g : Subgoal A) (h : Subgoal B) → Fits arities g → Fits arities h → g .relation ≡ h .relation → length (g .terms) ≡ length (h .terms)
 fits-alike arities g h f k e = f .long ∙ ap (λ n. getD arities n 0) e ∙ sym (k .long)

@@ -25,7 +25,7 @@ use Rattle.lookahead.specs.declared.reasons.Entered.{Entered}
 use Rattle.lookahead.specs.declared.Outlook.{Outlook}
 use Rattle.lookahead.proofs.Taken.{affords-free}
 use Rattle.placing.specs.FirstPlaces.{laid}
-use Rattle.placing.specs.Answer.{Afforded, SearchSays}
+use Rattle.placing.specs.SearchAnswer.{Afforded, SearchSays}
 use Rattle.placing.specs.Steps.{carrying, found, failed}
 use Rattle.placing.specs.declared.Placed.{Placed}
 use Rattle.placing.proofs.Open.{open-with, open-tail, affords-open}

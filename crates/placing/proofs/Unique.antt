@@ -9,7 +9,7 @@ use Rattle.bits.proofs.Laws.{exactly-once}
 use Rattle.task.specs.Task.{Task}
 use Rattle.task.specs.Mapped.{Feasible}
 use Rattle.placing.specs.FirstPlaces.{laid, FirstOf, FirstPlaces, Enough}
-use Rattle.placing.specs.Answer.{PlacesFrom}
+use Rattle.placing.specs.SearchAnswer.{PlacesFrom}
 use Rattle.placing.specs.declared.Places.{Places}
 
 module _ (Ok : List ℕ → Type 0) (at : ℕ) (r s : Places) (f : FirstOf Ok at r) (g : FirstOf Ok at s) where

@@ -18,7 +18,7 @@ use Rattle.lookahead.specs.Steps.{rowsOf}
 use Rattle.lookahead.specs.declared.reasons.Rows.{Rows}
 use Rattle.lookahead.proofs.Taken.{rows-affords, affords-rows}
 use Rattle.placing.specs.FirstPlaces.{laid, FirstPlaces, Enough}
-use Rattle.placing.specs.Answer.{Afforded, SearchSays, PlacesFrom}
+use Rattle.placing.specs.SearchAnswer.{Afforded, SearchSays, PlacesFrom}
 use Rattle.placing.specs.declared.Placed.{Placed}
 use Rattle.placing.specs.declared.Places.{Places}
 use Rattle.placing.proofs.Open.{affords-open, affords-used}

@@ -1,3 +1,3 @@
-pub mod Answer
 pub mod FirstPlaces
+pub mod SearchAnswer
 pub mod Steps

@@ -5,7 +5,7 @@ ghost use Prim.Native.Nat.{_<_, _≤_};
 ghost use lib.ListN.{length};
 ghost use Rattle.task.specs.Task.{posed, Sized};
 ghost use Rattle.placing.specs.FirstPlaces.{FirstPlaces, Enough};
-ghost use Rattle.placing.specs.Answer.{SearchSays, PlacesFrom};
+ghost use Rattle.placing.specs.SearchAnswer.{SearchSays, PlacesFrom};
 ghost use Rattle.placing.specs.Steps.{carrying, found, failed};
 use codes::SLOTS;
 use codes::SUBGOAL_CODES;

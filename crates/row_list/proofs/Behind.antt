@@ -9,9 +9,6 @@ use Rattle.spec.specs.Given.{atFront}
 use Rattle.spec.proofs.Lists.Parts.{to-end}
 use Rattle.rule_codes.proofs.Stores.{front-length, front-again}
 
-pub part-long : (a : ℕ) (l : List ℕ) → length (take (length l - a) (drop a l)) ≡ length l - a
-part-long a l = ap length (to-end l a) ∙ length-drop a l
-
 module _ (front more before mid part : List ℕ) (a : ℕ) (long : length front ≡ a) (fits : a + length more ≤ length before) (is : mid ≡ atFront front before) where
   pub mid-long : length mid ≡ length before
   mid-long = ap length is ∙ front-length front before (omega arith)

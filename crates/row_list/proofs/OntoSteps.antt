@@ -11,7 +11,7 @@ use Rattle.spec.specs.RuleLayout.{Layout}
 use Rattle.spec.specs.BookLayout.{questionMost, SoundBook}
 use Rattle.spec.specs.Contents.{entriesIn, partAt}
 use Rattle.spec.specs.Refusals.{Loads}
-use Rattle.spec.proofs.Bytes.BookPasses.{book-loads, question-reads}
+use Rattle.spec.proofs.Bytes.BookPasses.{book-loads, question-laid}
 use Rattle.spec.proofs.Bytes.Within.{entries-some}
 use Rattle.spec.proofs.Lists.Zeros.{zeros-take}
 use Rattle.codes.specs.Code.{termCode, codesOf}
@@ -32,11 +32,8 @@ module _ {book : List ℕ} {area : ℕ} (w : ListNeeds book area) where
   has-relations = omega (arith, entries-some book)
 
   module _ {relations body : List ℕ} (first : relations ≡ partAt book 0) (part : body ≡ partAt book 1) where
-    question-laid : (b : Book) → SoundBook book b → Layout relations questionMost body (b .question)
-    question-laid b s = rw (first, part) (question-reads s)
-
     pub question-is : QuestionLaid relations body
-    question-is = record { known = rw first (loads-it .relations .arities); rule = w .value .question; layout = question-laid (w .value) (w .sound) }
+    question-is = record { known = rw first (loads-it .relations .arities); rule = w .value .question; layout = question-laid first part (w .value) (w .sound) }
 
     module _ {before after : List ℕ} {n : ℕ} (wide : length before ≡ 972) (t : TargetCodes relations body before after n) where
       targets-most : (q : Rule ℕ) (l : Layout relations questionMost body q) → length (onto (t .terms q l) q) ≤ 108
@@ -46,12 +43,12 @@ module _ {book : List ℕ} {area : ℕ} (w : ListNeeds book area) where
           omega (arith, length-append (map alone (t .terms q l)) (q .body), length-map (t .terms q l) alone)
 
       pub targets-few : n ≤ 108
-      targets-few = let q = w .value .question in let l = question-laid (w .value) (w .sound) in omega (arith, t .count q l, targets-most q l)
+      targets-few = let q = w .value .question in let l = question-laid first part (w .value) (w .sound) in omega (arith, t .count q l, targets-most q l)
 
       pub target-long : length after ≡ 972
       target-long =
           let q = w .value .question in
-          let l = question-laid (w .value) (w .sound) in
+          let l = question-laid first part (w .value) (w .sound) in
           ap length (t .codes q l) ∙ front-length (codesOf termCode (onto (t .terms q l) q)) before (omega (arith, codes-length termCode (onto (t .terms q l) q), targets-most q l)) ∙ wide
 
       pub target-part : length (take (9 * n) after) ≡ 9 * n
@@ -66,7 +63,7 @@ module _ {book : List ℕ} {area : ℕ} (w : ListNeeds book area) where
           is : (b : Book) → SoundBook book b → TargetIs (b .question) (take (9 * n) after) (take n (replicate 108 0))
           is b s =
               let q = b .question in
-              let l = question-laid b s in
+              let l = question-laid first part b s in
               let codes = codesOf termCode (onto (t .terms q l) q) in
               record {
                 terms = t .terms q l;

@@ -11,9 +11,10 @@ use Rattle.spec.specs.Summaries.{place}
 use Rattle.spec.specs.Numbers.{numberAt}
 use Rattle.spec.specs.Given.{atFront}
 use Rattle.spec.proofs.Bytes.Standing.{numberOf, TermAt}
-use Rattle.spec.proofs.Lists.Places.{place-some, place-in}
+use Rattle.spec.proofs.Lists.Places.{place-some}
 use Rattle.spec.proofs.Bytes.RulePlaces.{head-terms}
 use Rattle.spec.proofs.Lists.At.{mapped}
+use Rattle.spec.proofs.Lists.Counted.{place-in}
 use Rattle.codes.specs.Code.{slotCode}
 use Rattle.rule_codes.specs.Laid.{Laid}
 use Rattle.rule_codes.specs.Promises.{HeadCount}
@@ -64,7 +65,7 @@ module _ {bytes : List ℕ} {n : ℕ} (count : HeadCount bytes n) where
             let at : 3 + 5 * i ≡ 2 + 5 * i + 1 = omega arith in
             let one : i + 1 ≡ suc i = omega arith in
             let none : 0 + i ≡ i = omega arith in
-            let slot : w ≡ getD (map slotCode (v .head)) i 0 = e ∙ ap (numberAt 4 bytes) at ∙ t .here .number ∙ plain-slot (v .head) (s .plain) (t .term) (place-in (v .head) (suc i) (t .term) (t .stands)) ∙ sym (mapped slotCode (v .head) i 0 (t .term) (t .stands)) in
+            let slot : w ≡ getD (map slotCode (v .head)) i 0 = e ∙ ap (numberAt 4 bytes) at ∙ t .here .number ∙ plain-slot (v .head) (s .plain) (t .term) (place-in (v .head) (suc i) (t .stands)) ∙ sym (mapped slotCode (v .head) i 0 (t .term) (t .stands)) in
             let inside : i < length (map slotCode (v .head)) = (let same = count .is relations 8 v (s .layout) in omega (arith, length-map (v .head) slotCode)) in
             ap₂ (λ l k. set l k w) (so .is relations v s) (sym none) ∙ stores-more (replicate 8 0) 0 (map slotCode (v .head)) i w inside slot ∙ ap (λ k. sets (replicate 8 0) 0 (take k (map slotCode (v .head)))) (sym one)
 

@@ -16,7 +16,8 @@ use Rattle.summary_rows.specs.RowTask.{alone, placed}
 use Rattle.row_list.specs.Alone.{aloneCodes}
 use Rattle.row_list.specs.Tasks.{SummaryIs, SomeSummary, HeadSlots, SourceCodes}
 use Rattle.row_list.proofs.AloneLaws.{alone-codes}
-use Rattle.row_list.proofs.Behind.{part-long, mid-long, behind}
+use Rattle.row_list.proofs.Behind.{mid-long, behind}
+use Rattle.spec.proofs.Lists.Parts.{part-long}
 use Rattle.row_list.proofs.SlotSteps.{heads-few}
 
 -- ones at the front of ones

@@ -20,7 +20,8 @@ use Rattle.summary_rows.specs.RowTask.{alone}
 use Rattle.row_list.specs.Alone.{aloneCodes}
 use Rattle.row_list.specs.Tasks.{TermsOf, TargetCodes}
 use Rattle.row_list.proofs.AloneLaws.{alone-codes}
-use Rattle.row_list.proofs.Behind.{part-long, mid-long, behind}
+use Rattle.row_list.proofs.Behind.{mid-long, behind}
+use Rattle.spec.proofs.Lists.Parts.{part-long}
 use Rattle.row_list.proofs.TermsListed.{termsOf, terms-codes, terms-of}
 
 module _ {relations bytes : List ℕ} (laid : QuestionLaid relations bytes) {zeros terms : List ℕ} {n : ℕ} (room : length zeros ≡ 108) (listed : BodyTerms relations bytes zeros terms n) where

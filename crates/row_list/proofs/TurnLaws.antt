@@ -11,8 +11,8 @@ use Rattle.spec.specs.Book.{Summary, Book, admittedOf}
 use Rattle.spec.specs.BookLayout.{SoundBook}
 use Rattle.spec.specs.Contents.{partAt}
 use Rattle.spec.specs.Table.{mostRows}
-use Rattle.spec.proofs.Lists.Places.{place-in}
 use Rattle.spec.proofs.Bytes.BookPasses.{book-loads, question-reads, summary-reads}
+use Rattle.spec.proofs.Lists.Counted.{place-in}
 use Rattle.admission.specs.Admission.{HasSummary, AdmissionSays}
 use Rattle.admission.proofs.Standing.{standing}
 use Rattle.summary_rows.specs.RowsAfter.{RowsAfter}
@@ -29,14 +29,14 @@ module _ {book : List ℕ} {i : ℕ} (has : HasSummary book i) where
       go zero h e = absurd (omega arith)
       go (suc k) h e =
           let one : suc k + 1 ≡ suc (suc k) = omega arith in
-          rw one record { layout = summary-reads s (suc k) u e; plain = s .value .summaries u (place-in (b .summaries) (suc k) u e) .plain }
+          rw one record { layout = summary-reads s (suc k) u e; plain = s .value .summaries u (place-in (b .summaries) (suc k) e) .plain }
 
   module _ {target own : List ℕ} (onto : TargetNeeds book target own) {relations body : List ℕ} (first : relations ≡ partAt book 0) (part : body ≡ partAt book (i + 1)) where
     placing-of : (b : Book) → SoundBook book b → (u : Summary) → place (b .summaries) i ≡ some u → SummaryTask relations body target own (u .rule) (b .question)
     placing-of b s u p = rw (first, part) record {
       known = book-loads s .relations .arities;
       summary = summary-is b s u p;
-      safe = s .value .summaries u (place-in (b .summaries) i u p) .safe;
+      safe = s .value .summaries u (place-in (b .summaries) i p) .safe;
       question = question-reads s .within;
       onto = onto .is b s;
     }

@@ -14,7 +14,7 @@ use Rattle.spec.specs.Numbers.{numberAt}
 use Rattle.spec.specs.RuleLayout.{Layout}
 use Rattle.spec.proofs.Lists.Gathered.{map-same}
 use Rattle.spec.proofs.Bytes.Standing.{TermAt}
-use Rattle.spec.proofs.Lists.Places.{place-some}
+use Rattle.spec.proofs.Lists.Places.{place-some, take-place}
 use Rattle.spec.proofs.Bytes.RulePlaces.{head-terms}
 use Rattle.spec.proofs.Lists.Zeros.{zero-at}
 use Rattle.codes.specs.Code.{variableTag, termCode, padded}
@@ -26,8 +26,7 @@ use Rattle.rule_codes.specs.Steps.{Many, SomeTerms}
 use Rattle.rule_codes.specs.Tables.{BaseTable}
 use Rattle.rule_codes.proofs.CodeLaws.{tabled-based, based-term}
 use Rattle.rule_codes.proofs.NineSteps.{TermsStored, eight-end}
-use Rattle.rule_codes.proofs.SoFar.{take-place}
-use Rattle.rule_codes.proofs.Stores.{after-store}
+use Rattle.spec.proofs.Lists.Stores.{after-store}
 
 module _ {bytes : List ℕ} {n : ℕ} (count : HeadCount bytes n) where
   head-many : {arities : List ℕ} {most : ℕ} {r : Rule ℕ} → Layout arities most bytes r → Many bytes 2 n (r .head)

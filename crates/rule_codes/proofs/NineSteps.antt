@@ -10,7 +10,8 @@ use Rattle.codes.specs.Code.{padded}
 use Rattle.codes.proofs.Padded.{padded-length, padded-at}
 use Rattle.rule_codes.specs.Codes.{tabled}
 use Rattle.rule_codes.specs.Steps.{Many, GoalAt, PaddedAt, NineAt}
-use Rattle.rule_codes.proofs.Stores.{stores-more, stores-end, stores-whole}
+use Rattle.rule_codes.proofs.Stores.{stores-more, stores-end}
+use Rattle.spec.proofs.Lists.Stores.{stores-whole}
 
 module _ (bytes : List ℕ) (at many to : ℕ) (table before : List ℕ) where
   -- The area after k of the eight terms, from `to` on.

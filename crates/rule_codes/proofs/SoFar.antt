@@ -2,7 +2,7 @@
 use mathlib.Core.Path.{_≡_, refl, sym, ap, ap₂, _∙_}
 use mathlib.Core.Option.{some}
 use mathlib.Core.List.{List, [], _∷_, _++_}
-use Prim.Native.Nat.{ℕ, zero, suc, _+_, _*_, _≤_}
+use Prim.Native.Nat.{ℕ, suc, _+_, _*_, _≤_}
 use native.Mathlib.Nat.{mul-suc, mul-le-mul-left}
 use native.Mathlib.Omega.{arith}
 use lib.ListN.{length, take}
@@ -12,7 +12,7 @@ use Rattle.spec.specs.Summaries.{place}
 use Rattle.spec.specs.RuleLayout.{Layout}
 use Rattle.spec.specs.Given.{atFront}
 use Rattle.spec.proofs.Bytes.RulePlaces.{goal-count}
-use Rattle.spec.proofs.Lists.Places.{place-less, nothing}
+use Rattle.spec.proofs.Lists.Places.{place-less, take-place}
 use Rattle.codes.specs.Code.{subgoalCodes, codesOf, widthsOf}
 use Rattle.codes.proofs.Padded.{codes-more, widths-more, nine, codes-length}
 use Rattle.rule_codes.specs.Codes.{tabled}
@@ -54,12 +54,6 @@ asWidths = record {
   long = widths-long;
   each = λ g. refl;
 }
-
--- the elements up to a place, and the one there
-pub take-place : {A : Type 0} (l : List A) (i : ℕ) (a : A) → place l (suc i) ≡ some a → take (suc i) l ≡ take i l ++ (a ∷ [])
-take-place [] i a p = nothing p
-take-place (b ∷ l) zero a p = let same : b ≡ a = cc in ap (λ c. c ∷ []) same
-take-place (b ∷ l) (suc i) a p = ap (_∷_ b) (take-place l i a p)
 
 -- The next subgoal of a rule is stored behind those before it.
 pub record SubgoalStored (w : Writing) (i : ℕ) (after next : List ℕ) (r : Rule ℕ) : Type 0 where

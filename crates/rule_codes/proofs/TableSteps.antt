@@ -16,7 +16,7 @@ use Rattle.spec.specs.Summaries.{place, replaced}
 use Rattle.spec.specs.Numbers.{numberAt}
 use Rattle.spec.specs.RuleLayout.{TermWithin}
 use Rattle.spec.proofs.Bytes.Standing.{TermAt}
-use Rattle.spec.proofs.Lists.Places.{nothing, place-some, place-in, place-drop}
+use Rattle.spec.proofs.Lists.Places.{nothing, place-some, place-drop}
 use Rattle.spec.proofs.Bytes.RulePlaces.{head-terms}
 use Rattle.spec.proofs.Lists.At.{mapped}
 use Rattle.codes.specs.Code.{variableTag, constantTag, termCode}
@@ -24,7 +24,8 @@ use Rattle.rule_codes.specs.Codes.{based, counted}
 use Rattle.rule_codes.specs.Laid.{UseOf, SomeUse}
 use Rattle.rule_codes.specs.Promises.{HeadCount}
 use Rattle.rule_codes.specs.Tables.{BaseTable, TermCode, OldCode, UseTable}
-use Rattle.rule_codes.proofs.Stores.{after-store}
+use Rattle.spec.proofs.Lists.Stores.{after-store}
+use Rattle.spec.proofs.Lists.Counted.{place-in}
 
 -- counting from a base on
 module _ (base : ℕ) where
@@ -93,7 +94,7 @@ module _ {arities bytes row : List ℕ} {v : Rule ℕ} {ts : List (Term ℕ)} (u
     here = head-terms (u .layout) .term i (var (x .0)) shown;
     term = t .0;
     given = t .1;
-    within = u .within (t .0) (place-in ts (suc i) (t .0) (t .1));
+    within = u .within (t .0) (place-in ts (suc i) (t .1));
     code = sym (getD-take (length ts) row i 0 (let l = u .long in omega arith)) ∙ ap (λ l. getD l i 0) (u .codes) ∙ mapped termCode ts i 0 (t .0) (t .1);
     room = let l = u .long in let m = row-long in omega arith;
   }

@@ -1,5 +1,5 @@
 -- Which codes of subgoals are terms' codes.
-use mathlib.Core.Path.{_≡_, refl, sym, ap, subst}
+use mathlib.Core.Path.{_≡_, refl, sym, subst}
 use mathlib.Core.Logic.{_↔_, _⊎_, inl, inr, ⊎-elim}
 use mathlib.Core.List.{List, [], _∷_, map, List·Memᴰ·head, List·Memᴰ·tail, List·Memᴰ·append-cases, List·Memᴰ·not-nil, Memᴰ·append-left, Memᴰ·append-right, Memᴰ·of-map}
 use Prim.Native.Nat.{ℕ, zero, suc, _<_, _≤_}
@@ -9,6 +9,7 @@ use Rattle.spec.specs.Words.{_∈_, Term, var, con, Subgoal}
 use Rattle.codes.specs.Code.{variableTag, termCode, padded, subgoalCodes, codesOf}
 use Rattle.rule_codes.specs.InOrder.{TermAmong}
 use Rattle.rule_codes.specs.BodyTerms.{CodeOf}
+use Rattle.spec.proofs.Lists.Gathered.{map-in}
 
 padded-out : (n : ℕ) (l : List ℕ) (w : ℕ) → w ∈ padded n l → (w ∈ l) ⊎ (w ≡ 1)
 padded-out zero l w i = absurd (List·Memᴰ·not-nil i)
@@ -25,10 +26,6 @@ padded-in (suc n) (x ∷ l) w h (List·Memᴰ·tail i) = List·Memᴰ·tail (pad
 pub above-tag : (t : Term ℕ) → variableTag ≤ termCode t
 above-tag (var x) = omega arith
 above-tag (con c) = omega arith
-
-pub map-in : {A B : Type 0} (f : A → B) (l : List A) (a : A) → a ∈ l → f a ∈ map f l
-map-in f (b ∷ l) a (List·Memᴰ·head e) = List·Memᴰ·head (ap f e)
-map-in f (b ∷ l) a (List·Memᴰ·tail i) = List·Memᴰ·tail (map-in f l a i)
 
 -- Subgoals with small relation numbers and no more than eight terms.
 pub record SmallSubgoals (gs : List (Subgoal (Term ℕ))) : Type 0 where

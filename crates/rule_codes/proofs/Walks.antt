@@ -9,8 +9,9 @@ use Rattle.spec.specs.Words.{Term, Subgoal, Rule, Fits}
 use Rattle.spec.specs.Summaries.{place}
 use Rattle.spec.specs.RuleLayout.{Layout}
 use Rattle.spec.proofs.Bytes.Standing.{TermsAt}
-use Rattle.spec.proofs.Lists.Places.{place-some, place-in}
+use Rattle.spec.proofs.Lists.Places.{place-some}
 use Rattle.spec.proofs.Bytes.RulePlaces.{goalStart, first-start, next-start, start-bound, goal-relation, goal-terms}
+use Rattle.spec.proofs.Lists.Counted.{place-in}
 use Rattle.rule_codes.specs.Laid.{Laid, LaidFor}
 use Rattle.rule_codes.specs.Promises.{HeadCount, GoalCount}
 use Rattle.rule_codes.specs.Steps.{GoalAt}
@@ -48,7 +49,7 @@ module _ {arities bytes : List ℕ} {n i at : ℕ} (count : GoalCount bytes n) (
       p = there .1
 
       fits : Fits arities g
-      fits = l .within .fit g (place-in (r .body) (suc i) g p)
+      fits = l .within .fit g (place-in (r .body) (suc i) p)
 
       start : at ≡ goalStart r i
       start = ahead .is most r l

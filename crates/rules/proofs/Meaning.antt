@@ -1,5 +1,5 @@
 -- What the notes mean: the variables of terms, and whether terms are distinct variables.
-use mathlib.Core.Path.{_≡_, refl, sym, ap, _∙_, subst}
+use mathlib.Core.Path.{_≡_, refl, ap, subst}
 use mathlib.Core.Logic.{_⊎_, inl, inr, ⊎-elim, _↔_}
 use mathlib.Core.Bool.{Bool, true, false, _&&_, not}
 use mathlib.Core.List.{List, [], _∷_, List·Memᴰ·head, List·Memᴰ·tail, List·Memᴰ·not-nil}
@@ -10,6 +10,7 @@ use Rattle.bits.specs.Sets.{Has, has, with}
 use Rattle.bits.proofs.Laws.{has-none, has-true, true-has, with-new, with-old, with-cases}
 use Rattle.rules.specs.declared.subgoals.Marks.{Marks}
 use Rattle.rules.specs.Marked.{none, mark, marks, ofGoal, goalMarks}
+use Rattle.spec.proofs.Lists.Tests.{and-true}
 
 -- one term
 mark-keeps : (m : Marks) (t : Term ℕ) (x : ℕ) → Has (m .vars) x → Has (mark m t .vars) x
@@ -75,10 +76,6 @@ record Plain (m : Marks) (ts : List (Term ℕ)) : Type 0 where
   so-far : m .plain ≡ true
   distinct : DistinctVariables ts
   new : (x : ℕ) → var x ∈ ts → Has (m .vars) x → ⊥
-
-and-true : (a b : Bool) → (not a && b) ≡ true → (a ≡ false) × (b ≡ true)
-and-true true b e = absurd (let z : _≡_ {A = ℕ} 0 1 = cc in omega arith)
-and-true false b e = (refl, e)
 
 not-has : (set x : ℕ) → has set x ≡ false → Has set x → ⊥
 not-has set x e h = let t = true-has set x h in let z : _≡_ {A = ℕ} 0 1 = cc in omega arith

@@ -1,14 +1,12 @@
 -- What reading a whole rule answers, one law for each return of the code.
-use mathlib.Core.Path.{_≡_, refl, sym, ap, ap₂, _∙_, subst}
-use mathlib.Core.Bool.{Bool, true, false, cond}
+use mathlib.Core.Path.{_≡_, refl, sym, ap, ap₂, _∙_}
 use mathlib.Core.List.{List, [], _∷_}
-use Prim.Native.Nat.{ℕ, zero, suc, _+_, _-_, _<_, _≤_}
+use Prim.Native.Nat.{ℕ, _-_, _<_, _≤_}
 use native.Mathlib.Omega.{arith}
 use lib.ListN.{length, getD, drop, length-drop}
-use lib.Dec.{leb, ltb}
 use borrow.Author.Tests.{lt-ltb, le-ltb, le-leb, lt-leb}
 use Rattle.spec.specs.Words.{Term, Subgoal, Rule}
-use Rattle.spec.proofs.Bytes.RuleReading.{Read, got, bad, badCount, early, over, andThen, readTerm, readMany, readSubgoal, asRule, readBody, readHead, readGoals, readRule}
+use Rattle.spec.proofs.Bytes.RuleReading.{Read, got, bad, badCount, over, andThen, readTerm, readMany, readSubgoal, asRule, readBody, readHead, readRule}
 use Rattle.spec.proofs.Bytes.Tails.{end-place, tails-many, tails-term, tails-subgoal}
 use Rattle.rules.specs.declared.subgoals.Fault.{Fault}
 use Rattle.rules.specs.declared.subgoals.Fault.the-variants.{Count, Early, Over}
@@ -21,11 +19,7 @@ use Rattle.rules.specs.declared.Whole.the-variants as whole
 use Rattle.rules.specs.Marked.{none, marks, goalMarks, stepped}
 use Rattle.rules.specs.Wholes.{stoppedBy, wholeOf}
 use Rattle.rules.proofs.Runs.{Went, went, stopped}
-
-two-bytes : (s : List ℕ) → 2 ≤ length s → s ≡ getD s 0 0 ∷ getD s 1 0 ∷ drop 2 s
-two-bytes [] h = absurd (omega arith)
-two-bytes (a ∷ []) h = absurd (omega arith)
-two-bytes (a ∷ b ∷ s) h = refl
+use Rattle.spec.proofs.Lists.Parts.{two-bytes}
 
 module _ (arities : List ℕ) (most : ℕ) where
   abbrev answer : List ℕ → Whole

@@ -1,19 +1,19 @@
 -- So many of a kind, read one after the other: what a loop over them keeps.
 use mathlib.Core.Path.{_≡_, refl, sym, ap, ap₂, _∙_}
 use mathlib.Core.List.{List, [], _∷_}
-use Prim.Native.Nat.{ℕ, zero, suc, _+_, _-_, _<_, _≤_}
+use Prim.Native.Nat.{ℕ, suc, _+_, _-_, _<_, _≤_}
 use native.Mathlib.Omega.{arith}
 use lib.ListN.{length, drop}
 use Rattle.spec.specs.Words.{Term, Subgoal}
 use Rattle.spec.proofs.Bytes.RuleReading.{Read, got, bad, andThen, readMany, readTerm, readSubgoal}
 use Rattle.spec.proofs.Bytes.RuleReading as reading
-use Rattle.spec.proofs.Bytes.Tails.{Tails, EndOf, end-place, tails-term, tails-subgoal}
+use Rattle.spec.proofs.Bytes.Tails.{Tails, end-place, tails-term, tails-subgoal}
 use Rattle.rules.specs.declared.subgoals.Fault.{Fault}
 use Rattle.rules.specs.declared.subgoals.Marks.{Marks}
 use Rattle.rules.specs.declared.subgoals.Step.{Step}
 use Rattle.rules.specs.declared.subgoals.Step.the-variants.{Next, Bad}
 use Rattle.rules.specs.Marked.{stepped, faultOf, mark, marks, ofGoal, goalMarks}
-use Rattle.rules.proofs.TermSteps.{place-left}
+use Rattle.spec.proofs.Lists.Parts.{place-left}
 
 -- a step that goes on, or that ends the reading, taken apart
 pub record Went {A : Type 0} (noted : A → Marks) (n : ℕ) (z : Read A) (p : ℕ) (m : Marks) : Type 0 where

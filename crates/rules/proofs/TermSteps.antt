@@ -1,13 +1,13 @@
 -- What a term's step answers, one law for each return of the code.
 use mathlib.Core.Path.{_≡_, refl, sym, ap, ap₂, _∙_}
 use mathlib.Core.Bool.{Bool, true, false, cond}
-use mathlib.Core.List.{List, [], _∷_}
+use mathlib.Core.List.{List}
 use Prim.Native.Nat.{ℕ, zero, suc, _+_, _-_, _<_, _≤_}
 use native.Mathlib.Omega.{arith}
 use native.Mathlib.Numerals.{add-one}
-use lib.ListN.{length, getD, drop, length-drop, drop-of-length-le}
+use lib.ListN.{length, getD, drop, drop-of-length-le}
 use lib.Seq.{drop-cons}
-use lib.Dec.{eqb, ltb}
+use lib.Dec.{eqb}
 use borrow.Author.Tests.{eqb-false, eq-eqb, ne-eqb, lt-ltb, le-ltb}
 use Rattle.spec.specs.Words.{Term, var, con}
 use Rattle.spec.specs.Numbers.{numberAt}
@@ -18,10 +18,7 @@ use Rattle.rules.specs.declared.subgoals.Marks.{Marks}
 use Rattle.rules.specs.declared.subgoals.Step.{Step}
 use Rattle.rules.specs.declared.subgoals.Step.the-variants.{Next, Bad}
 use Rattle.rules.specs.Marked.{stepped}
-
--- the place behind what is left
-pub place-left : (s : List ℕ) (p : ℕ) → p ≤ length s → length s - length (drop p s) ≡ p
-place-left s p h = omega (arith, length-drop p s)
+use Rattle.spec.proofs.Lists.Parts.{place-left}
 
 small : (n : ℕ) → n ≤ 1 → (n ≡ 0 → ⊥) → (n ≡ 1 → ⊥) → ⊥
 small zero h f g = f refl

@@ -3,7 +3,7 @@ use mathlib.Core.Path.{_≡_, refl, sym, ap, _∙_, subst}
 use mathlib.Core.Logic.{_⊎_, inl, inr}
 use mathlib.Core.Bool.{cond}
 use mathlib.Core.Option.{some, Option·none-ne-some, Option·some-injective}
-use mathlib.Core.List.{List, [], _∷_, _++_, map}
+use mathlib.Core.List.{List, [], _∷_, map}
 use Prim.Native.Nat.{ℕ, zero, suc, _+_, _-_, _<_}
 use native.Mathlib.Omega.{arith}
 use native.Mathlib.Decide.{decLt}
@@ -13,6 +13,7 @@ use Rattle.spec.specs.Summaries.{place, joined}
 use Rattle.spec.specs.Order.{ListBefore}
 use Rattle.spec.specs.Answer.{AtPlaces, AtPairs}
 use Rattle.spec.proofs.Lists.Counted.{place-within}
+use Rattle.spec.proofs.Lists.Places.{place-before, place-behind}
 use Rattle.search_meaning.specs.Uses.{useAt, withinAt, pairsOf}
 
 module _ {A : Type 0} where
@@ -27,16 +28,6 @@ module _ {A : Type 0} where
         ap (λ b. cond b (length m + k) (withinAt ls (length m + k - length m))) t ∙ ap (withinAt ls) e,
       )
 
-  -- what stands in the first list, and behind it
-  place-left : (l m : List A) (k : ℕ) → k < length l → place (l ++ m) (suc k) ≡ place l (suc k)
-  place-left [] m k h = absurd (omega arith)
-  place-left (b ∷ l) m zero h = refl
-  place-left (b ∷ l) m (suc k) h = place-left l m k (omega arith)
-
-  place-right : (l m : List A) (k : ℕ) → place (l ++ m) (suc (length l + k)) ≡ place m (suc k)
-  place-right [] m k = ap (λ n. place m (suc n)) (let e : 0 + k ≡ k = omega arith in e)
-  place-right (b ∷ l) m k = let e : suc (length l) + k ≡ suc (length l + k) = omega arith in ap (λ n. place (b ∷ l ++ m) (suc n)) e ∙ place-right l m k
-
   abbrev Paired : List (List A) → ℕ → ℕ → A → Type 0
   Paired ls u w a = (m : List A) × (place ls (suc u) ≡ some m) × (place m (suc w) ≡ some a)
 
@@ -45,11 +36,11 @@ module _ {A : Type 0} where
   place-paired (m ∷ ls) k a e = go (decLt k (length m)) (place-paired ls (k - length m) a)
     where
       go : Dec (k < length m) → (place (joined ls) (suc (k - length m)) ≡ some a → Paired ls (useAt ls (k - length m)) (withinAt ls (k - length m)) a) → Paired (m ∷ ls) (useAt (m ∷ ls) k) (withinAt (m ∷ ls) k) a
-      go (yes h) rest = let w = use-here m ls k h in rw (w .0, w .1) (m, refl, sym (place-left m (joined ls) k h) ∙ e)
+      go (yes h) rest = let w = use-here m ls k h in rw (w .0, w .1) (m, refl, sym (place-before m (joined ls) k h) ∙ e)
       go (no h) rest =
           let n : k ≡ length m + (k - length m) = omega arith in
           let w = use-later m ls (k - length m) in
-          let r = rest (sym (place-right m (joined ls) (k - length m)) ∙ ap (λ j. place (joined (m ∷ ls)) (suc j)) (sym n) ∙ e) in
+          let r = rest (sym (place-behind m (joined ls) (k - length m)) ∙ ap (λ j. place (joined (m ∷ ls)) (suc j)) (sym n) ∙ e) in
           subst (λ j. Paired (m ∷ ls) (useAt (m ∷ ls) j) (withinAt (m ∷ ls) j) a) (sym n) (rw (w .0, w .1) r)
 
   pub paired-place : (ls : List (List A)) (u w : ℕ) (a : A) → Paired ls u w a → (k : ℕ) × (useAt ls k ≡ u) × (withinAt ls k ≡ w) × (place (joined ls) (suc k) ≡ some a)
@@ -58,11 +49,11 @@ module _ {A : Type 0} where
       let here : place m (suc w) ≡ some a = ap (λ l. place l (suc w)) (Option·some-injective m (p .0) (p .1)) ∙ p .2 in
       let h = place-within m (suc w) a here .1 in
       let r = use-here m ls w (omega arith) in
-      (w, r .0, r .1, place-left m (joined ls) w (omega arith) ∙ here)
+      (w, r .0, r .1, place-before m (joined ls) w (omega arith) ∙ here)
   paired-place (m ∷ ls) (suc u) w a p =
       let r = paired-place ls u w a p in
       let q = use-later m ls (r .0) in
-      (length m + r .0, q .0 ∙ ap suc (r .1), q .1 ∙ r .2, place-right m (joined ls) (r .0) ∙ r .3)
+      (length m + r .0, q .0 ∙ ap suc (r .1), q .1 ∙ r .2, place-behind m (joined ls) (r .0) ∙ r .3)
 
   -- a later place is in a later list, or later in the same
   abbrev Later : List (List A) → ℕ → ℕ → Type 0

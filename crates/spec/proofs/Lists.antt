@@ -4,6 +4,7 @@ pub mod Enumerate
 pub mod Finite
 pub mod Gathered
 pub mod Joined
+pub mod Lacking
 pub mod Parts
 pub mod Places
 pub mod Rising

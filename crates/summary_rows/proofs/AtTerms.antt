@@ -10,7 +10,7 @@ use Rattle.spec.specs.Words.{_∈_, Term, Subgoal}
 use Rattle.spec.specs.Summaries.{place}
 use Rattle.spec.specs.Order.{TermBefore, ListBefore}
 use Rattle.spec.specs.Answer.{AtPlaces}
-use Rattle.spec.proofs.Lists.Counted.{place-in}
+use Rattle.spec.proofs.Lists.Counted.{place-in, from-one}
 use Rattle.spec.proofs.Decided.Orders.{bytesOrder, termOrder}
 use Rattle.spec.proofs.Decided.Equal.{eqNumber, eqTerm}
 use Rattle.spec.proofs.Lists.Strict.{Strict, one-way, listOrder}
@@ -52,13 +52,9 @@ module _ {A : Type 0} (all : List A) where
   pub stand-of : (ms : List A) → ((m : A) → m ∈ ms → m ∈ all) → (l : List ℕ) × Stand all l ms
   stand-of [] h = ([], tt)
   stand-of (m ∷ ms) h =
-      let k = place-at all (h m (List·Memᴰ·head refl)) in
+      let k = from-one all (h m (List·Memᴰ·head refl)) in
       let l = stand-of ms (λ n i. h n (List·Memᴰ·tail i)) in
       (k .0 ∷ l .0, (k .1, l .1))
-    where
-      place-at : (all : List A) {a : A} → a ∈ all → (k : ℕ) × (place all (suc k) ≡ some a)
-      place-at (b ∷ l) (List·Memᴰ·head e) = (zero, ap some (sym e))
-      place-at (b ∷ l) (List·Memᴰ·tail i) = let w = place-at l i in (suc (w .0), w .1)
 
 -- Terms alone, and a body behind them.
 module _ (body : List (Subgoal (Term ℕ))) where

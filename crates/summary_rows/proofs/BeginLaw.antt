@@ -10,7 +10,7 @@ use Rattle.spec.specs.Order.{ListBefore, First}
 use Rattle.spec.proofs.Lists.At.{choices}
 use Rattle.task.specs.Task.{Task, goals, targets}
 use Rattle.task.specs.Completion.{Completion}
-use Rattle.placing.specs.Answer.{PlacesFrom}
+use Rattle.placing.specs.SearchAnswer.{PlacesFrom}
 use Rattle.placing.specs.declared.Places.{Places}
 use Rattle.summary_rows.specs.RowPlaces.{RowFront, OnTargets, Begins}
 use Rattle.summary_rows.specs.FixedPlaces.{fixing, InReach}

@@ -11,7 +11,8 @@ use Rattle.spec.specs.Order.{ListBefore, First}
 use Rattle.task.specs.Task.{Task}
 use Rattle.placing.specs.declared.Places.{Places}
 use Rattle.summary_rows.specs.RowPlaces.{RowPlaces, PlacesWith, RowFront, FrontNeeds, RowGoesOn, NextPlace}
-use Rattle.summary_rows.proofs.Fronts.{front-same, front-before, front-last, front-put}
+use Rattle.summary_rows.proofs.Fronts.{front-same, front-before}
+use Rattle.spec.proofs.Lists.Parts.{front-last, front-put}
 use Rattle.summary_rows.proofs.RowFronts.{goes-on, front-row, front-long, front-begins}
 
 -- the first i of `all` are the first front of that length, of rows that begin with the first j of ks; behind the head `all` is ks

@@ -5,7 +5,7 @@ use mathlib.Core.List.{List}
 use Prim.Native.Nat.{ℕ, zero, suc, _+_, _*_, _<_}
 use native.Mathlib.Omega.{arith}
 use native.Mathlib.Decide.{ℕ-discrete, decLt}
-use lib.ListN.{length, getD, set, replicate, length-set, length-replicate, getD-replicate, List·getD-eq-default}
+use lib.ListN.{length, getD, set, length-set, length-replicate}
 use lib.Seq.{getD-set-same, getD-set-other}
 use lib.Dec.{ltb}
 use borrow.Author.Tests.{ltb-true, lt-ltb}
@@ -13,13 +13,7 @@ use Rattle.task.specs.Task.{Task, sourceRelation, targetRelation, widthOf, valu
 use Rattle.task.proofs.Slots.{value-slot}
 use Rattle.summary_rows.specs.RowPlaces.{headTerm, OnTargets}
 use Rattle.summary_rows.specs.FixedPlaces.{binding, fixing}
-
-nothing-bound : (x : ℕ) → _≡_ {A = ℕ} (getD (replicate 64 0) x 0) 0
-nothing-bound x = go (decLt x 64)
-  where
-    go : Dec (x < 64) → _≡_ {A = ℕ} (getD (replicate 64 0) x 0) 0
-    go (yes h) = getD-replicate {A = ℕ} 64 x 0 0 h
-    go (no h) = List·getD-eq-default {A = ℕ} (replicate 64 0) 0 {n = x} (omega (arith, length-replicate {A = ℕ} 64 0))
+use Rattle.spec.proofs.Lists.Zeros.{zero-at}
 
 -- One more code: the values that extend the bindings with it are those that extend the bindings and give the term that code.
 module _ (g : List ℕ) (long : length g ≡ 64) (x y : ℕ) (v : ℕ → ℕ) where
@@ -91,7 +85,7 @@ module _ (p : Task) (ks : List ℕ) where
 
   pub fixing-forced : (j : ℕ) → ((i : ℕ) → i < j → widthOf p i ≡ 1) → (v : ℕ → ℕ) → AgreeTo p j ks v → Extends (fixing (p .source) (p .target) ks j) v
   unfolding fixing
-  fixing-forced zero single v a = λ x n. absurd (n (nothing-bound x))
+  fixing-forced zero single v a = λ x n. absurd (n (zero-at 64 x))
   fixing-forced (suc j) single v a =
       binding-extends (fixed j) (fixing-long j) (termOf j) (codeOf j) v
       (fixing-forced j (λ i h. single i (omega arith)) v (λ i h. a i (omega arith))) (only-term p j (getD ks j 0) (single j (omega arith)) v (a j (omega arith)))

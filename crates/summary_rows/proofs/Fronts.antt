@@ -4,9 +4,8 @@ use mathlib.Core.Logic.{_⊎_, inl, inr, ⊎-elim}
 use mathlib.Core.List.{List, [], _∷_, _++_, head-eq-of-cons-eq, tail-eq-of-cons-eq}
 use Prim.Native.Nat.{ℕ, zero, suc, _+_, _<_, _≤_}
 use native.Mathlib.Omega.{arith}
-use native.Mathlib.Numerals.{add-one}
-use lib.ListN.{length, getD, set, take, drop, take-append-drop}
-use lib.Seq.{length-take-le, take-suc, take-suc-set}
+use lib.ListN.{length, getD, take, drop, take-append-drop}
+use lib.Seq.{length-take-le}
 use Rattle.spec.specs.Order.{ListBefore}
 
 module _ {A : Type 0} (before : A → A → Type 0) where
@@ -37,13 +36,6 @@ module _ {A : Type 0} (before : A → A → Type 0) where
 pub front-decides : (n : ℕ) (l m : List ℕ) → n ≤ length l → n ≤ length m → ListBefore _<_ (take n l) (take n m) → ListBefore _<_ l m
 front-decides n l m a b h = subst (ListBefore _<_ l) (take-append-drop n m)
     (subst (λ x. ListBefore _<_ x (take n m ++ drop n m)) (take-append-drop n l) (front-before _<_ (take n l) (take n m) (drop n l) (drop n m) (length-take-le n l a ∙ sym (length-take-le n m b)) h))
-
--- a front with one more
-pub front-last : (l : List ℕ) (j : ℕ) → j < length l → take (j + 1) l ≡ take j l ++ (getD l j 0 ∷ [])
-front-last l j h = rw (add-one j) (take-suc l j 0 h)
-
-pub front-put : (l : List ℕ) (j k : ℕ) → j < length l → take (j + 1) (set l j k) ≡ take j l ++ (k ∷ [])
-front-put l j k h = rw (add-one j) (take-suc-set l j k h)
 
 -- Where the fronts are the same, the number at the place after them decides, or it is the same too.
 pub split-later : (j : ℕ) (a b : List ℕ) → length a ≡ length b → j < length a → take j a ≡ take j b → ListBefore _<_ (drop j a) (drop j b)

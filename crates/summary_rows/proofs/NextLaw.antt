@@ -11,7 +11,8 @@ use Rattle.spec.specs.Order.{ListBefore, First}
 use Rattle.task.specs.Task.{Task}
 use Rattle.placing.specs.declared.Places.{Places}
 use Rattle.summary_rows.specs.RowPlaces.{HeadTask, RowPlaces, LaterPlaces, PlacesWith, RowGoesOn, NextPlace}
-use Rattle.summary_rows.proofs.Fronts.{front-same, front-split, front-decides, front-last, front-put, split-later}
+use Rattle.summary_rows.proofs.Fronts.{front-same, front-split, front-decides, split-later}
+use Rattle.spec.proofs.Lists.Parts.{front-last, front-put}
 use Rattle.summary_rows.proofs.RowFronts.{goes-on}
 
 -- no row comes after ks and has its first j places

@@ -11,7 +11,7 @@ use Rattle.task.specs.Task.{Task, targets}
 use Rattle.placing.specs.declared.Places.{Places}
 use Rattle.summary_rows.specs.RowPlaces.{HeadTask, PlacesWith, NextRowNeeds, RowFront, FrontNeeds, OnTargets, Begins, NextPlace, StartPlaces, NextPlaces}
 use Rattle.summary_rows.specs.FixedPlaces.{InReach}
-use Rattle.summary_rows.proofs.Fronts.{front-put}
+use Rattle.spec.proofs.Lists.Parts.{front-put}
 use Rattle.summary_rows.proofs.RowFronts.{row-front, row-stands}
 use Rattle.summary_rows.proofs.NextLaw.{Gone, gone-more, next-none, next-found}
 

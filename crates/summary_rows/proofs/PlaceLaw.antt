@@ -10,7 +10,7 @@ use lib.ListN.{length, getD, set, take, length-append, List·getD-append}
 use lib.Seq.{getD-set-same, getD-set-other, getD-append-add}
 use Rattle.task.specs.Task.{Task, targets, sourceRelation, targetRelation}
 use Rattle.summary_rows.specs.RowPlaces.{RowFront, FrontNeeds, OnTargets, Begins, RowGoesOn, NextPlace}
-use Rattle.summary_rows.proofs.Fronts.{front-put}
+use Rattle.spec.proofs.Lists.Parts.{front-put}
 use Rattle.summary_rows.proofs.OneUse.{StandsAt}
 use Rattle.summary_rows.proofs.RowFronts.{values, row-stands, front-long, front-stands}
 

@@ -2,19 +2,13 @@
 use mathlib.Core.Path.{_≡_, refl, sym, ap, subst}
 use mathlib.Core.Logic.{⊎-elim}
 use mathlib.Core.Option.{some, none, Option·none-ne-some, Option·some-injective, Option·some-ne-none}
-use mathlib.Core.List.{List, [], _∷_, _++_, List·Memᴰ·head, List·Memᴰ·tail, List·Memᴰ·append-cases, Memᴰ·append-right, List·Memᴰ·not-nil}
+use mathlib.Core.List.{List, [], _∷_, _++_, List·Memᴰ·head, List·Memᴰ·tail, List·Memᴰ·append-cases, Memᴰ·append-right}
 use Rattle.spec.specs.Words.{_∈_}
 use Rattle.spec.specs.Order.{First}
 use Rattle.spec.proofs.Lists.Gathered.{first}
 use Rattle.spec.proofs.Lists.Strict.{Strict, one-way}
-use Rattle.spec.proofs.Lists.Rising.{Rising, rising-right}
+use Rattle.spec.proofs.Lists.Rising.{Rising, rising-right, rising-across}
 use Rattle.spec.proofs.Lists.Enumerate.{Enumerates, enumerates-first, enumerates-none}
-
--- what stands before something in a rising list is before it
-rising-across : {A : Type 0} (Before : A → A → Type 0) (done rest : List A) → Rising Before (done ++ rest) → (a b : A) → a ∈ done → b ∈ rest → Before a b
-rising-across Before [] rest r a b i j = absurd (List·Memᴰ·not-nil i)
-rising-across Before (c ∷ done) rest r a b (List·Memᴰ·head e) j = subst (λ z. Before z b) (sym e) (r .0 b (Memᴰ·append-right done j))
-rising-across Before (c ∷ done) rest r a b (List·Memᴰ·tail i) j = rising-across Before done rest (r .1) a b i j
 
 module _ {A : Type 0} {Ok : A → Type 0} {Before : A → A → Type 0} (o : Strict Before) where
   pub first-of : (l : List A) → Enumerates Ok Before l → (a : A) → First Ok Before a → (rest : List A) × (l ≡ a ∷ rest)

@@ -7,7 +7,7 @@ use lib.ListN.{length, getD, take, drop, length-append, take-append-drop, List·
 use lib.Seq.{take-at, getD-take, length-take-le}
 use Rattle.task.specs.Task.{Task, goals}
 use Rattle.summary_rows.specs.RowPlaces.{HeadTask, RowPlaces, RowFront, FrontNeeds, RowGoesOn}
-use Rattle.summary_rows.proofs.Fronts.{front-last}
+use Rattle.spec.proofs.Lists.Parts.{front-last}
 use Rattle.summary_rows.proofs.OneUse.{StandsAt, StandFrom, stand-at, mapped-stand}
 
 module _ (p : Task) (h : ℕ) (ready : HeadTask p h) (js : List ℕ) (y : RowPlaces p h js) where

@@ -12,14 +12,7 @@ use Rattle.summary_rows.specs.RowPlaces.{RowPlaces}
 use Rattle.summary_rows.proofs.TaskLaws.{fit-other, row-sent}
 use Rattle.summary_rows.proofs.HeadLaws.{variable}
 use Rattle.summary_rows.proofs.AtTerms.{Stand, stand-long, stand-split, stand-join, stand-of, front-place, stand-front}
-
-map-append : {A B : Type 0} (f : A → B) (l m : List A) → map f (l ++ m) ≡ map f l ++ map f m
-map-append f [] m = refl
-map-append f (a ∷ l) m = ap (λ r. f a ∷ r) (map-append f l m)
-
-map-map : {A B C : Type 0} (f : A → B) (g : B → C) (l : List A) → map g (map f l) ≡ map (λ a. g (f a)) l
-map-map f g [] = refl
-map-map f g (a ∷ l) = ap (λ r. g (f a) ∷ r) (map-map f g l)
+use Rattle.spec.proofs.Lists.Gathered.{map-append, map-map}
 
 module _ (v q : Rule ℕ) (ts : List (Term ℕ)) (p : Task) (h : ℕ) (w : TaskOf v q ts p h) where
   -- a head's places stand for terms

@@ -13,7 +13,7 @@ use Rattle.spec.specs.Summaries.{Own, uses, joined}
 use Rattle.spec.specs.Book.{Book, admittedOf}
 use Rattle.outcomes.proofs.Bounds.{book-bounds}
 use Rattle.book_codes.specs.Question.{QuestionSource, QuestionBound}
-use Rattle.book_codes.specs.UsesLent.{TargetUsesOf}
+use Rattle.book_codes.specs.UsesLent.{InnerUsesOf}
 use Rattle.book_codes.proofs.Read.{insides-long, insides-at}
 use Rattle.book_codes.proofs.Lent.{source-widths}
 use Rattle.book_codes.proofs.ThereTask as task
@@ -54,26 +54,26 @@ within-most (m ∷ ls) k = go (ltb k (length m)) (within-most ls (k - length m))
     go true rest = omega arith
     go false rest = omega arith
 
-module _ {book target own inner : List ℕ} (b : Book) (l : List (Subgoal (Term ℕ))) (o : TargetUsesOf book target own inner b l)
+module _ {book target own inner : List ℕ} (b : Book) (l : List (Subgoal (Term ℕ))) (o : InnerUsesOf book target own inner b l)
     {before after old new : List ℕ} {n : ℕ} (source : QuestionSource book before after old new n) {bound : List ℕ} (heads : QuestionBound book bound) where
   abbrev ls : List (List (Subgoal (Term (Own ℕ))))
   ls = uses (admittedOf b) 0 l
 
   owned : length own ≡ length (joined ls)
-  owned = task.owned b l o source heads
+  owned = task.owned b l (o .targets) source heads
 
   few-goals : n ≤ 12
-  few-goals = task.few-goals b l o source heads
+  few-goals = task.few-goals b l (o .targets) source heads
 
   own-small : (k : ℕ) → getD own k 0 < 64
-  own-small = task.own-small b l o source heads
+  own-small = task.own-small b l (o .targets) source heads
 
-  module _ (serves : Serves b l) {r : Places} (f : FirstPlaces (task.lent b l o source heads) bound r) where
-    pub there-found : FoundAt (task.lent b l o source heads) bound r
-    there-found = found-at f (task.there-places b l o source heads (serves .there))
+  module _ (serves : Serves b l) {r : Places} (f : FirstPlaces (task.lent b l (o .targets) source heads) bound r) where
+    pub there-found : FoundAt (task.lent b l (o .targets) source heads) bound r
+    there-found = found-at f (task.there-places b l (o .targets) source heads (serves .there))
 
     goals-are : length (take n new) ≡ n
-    goals-are = ap length (source-widths b (o .list .sound) source) ∙ length-map (b .question .body) _ ∙ sym (source .count b (o .list .sound))
+    goals-are = ap length (source-widths b (o .targets .list .sound) source) ∙ length-map (b .question .body) _ ∙ sym (source .count b (o .targets .list .sound))
 
     place-within : (i : ℕ) → i < n → (getD (r .ks) i 0 ≡ getD (there-found .places) i 0) × (getD (there-found .places) i 0 < length own)
     place-within i h = let h′ : i < length (take n new) = rw goals-are h in (there-found .reads i h′, there-found .first .holds .lands i h′ .within)
@@ -82,7 +82,7 @@ module _ {book target own inner : List ℕ} (b : Book) (l : List (Subgoal (Term 
     insides-same = ap length (o .inners) ∙ insides-long ls ∙ sym owned
 
     all-few : length (joined ls) ≤ 96
-    all-few = let f = o .list .few in omega (arith, uses-few (b .arities) (admittedOf b) (b .question) (book-bounds b (o .list .sound .value)) 0 l (o .list .within))
+    all-few = let f = o .targets .list .few in omega (arith, uses-few (b .arities) (admittedOf b) (b .question) (book-bounds b (o .targets .list .sound .value)) 0 l (o .targets .list .within))
 
     inner-at : (k : ℕ) → k < length (joined ls) → getD inner k 0 ≡ withinAt ls k
     inner-at k h = ap (λ m. getD m k 0) (o .inners) ∙ insides-at ls k h
@@ -107,13 +107,13 @@ module _ {book target own inner : List ℕ} (b : Book) (l : List (Subgoal (Term 
     written-are : pairBytes (r .ks) own inner 0 n ≡ pairsOf ls (there-found .places)
     written-are =
         ap (pairBytes (r .ks) own inner 0) (sym places-long)
-        ∙ pairs-written ls (r .ks) own inner (there-found .places) 0 (λ k h. (ap (λ m. getD m k 0) (o .owns) ∙ omega (arith, owners-at 0 ls k h), inner-at k h))
+        ∙ pairs-written ls (r .ks) own inner (there-found .places) 0 (λ k h. (ap (λ m. getD m k 0) (o .targets .owns) ∙ omega (arith, owners-at 0 ls k h), inner-at k h))
         (λ j h. let p = place-within j (omega (arith, places-long)) in let z : 0 + j ≡ j = omega arith in (ap (λ i. getD (r .ks) i 0) z ∙ p .0, omega (arith, p .1, owned)))
 
     pub there-of : {out out′ : List ℕ} → out′ ≡ sets out 0 (pairBytes (r .ks) own inner 0 n) → ThereOf b l out out′ (2 * n)
     there-of {out} e = record {
       bytes = pairsOf ls (there-found .places);
-      first = task.there-firsts b l o source heads (there-found .places) (there-found .first);
+      first = task.there-firsts b l (o .targets) source heads (there-found .places) (there-found .first);
       long = omega (arith, pairs-long ls (there-found .places), places-long);
       few = omega (arith, few-goals);
       written = e ∙ ap (sets out 0) written-are;

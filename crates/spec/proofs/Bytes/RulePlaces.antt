@@ -12,9 +12,10 @@ use Rattle.spec.specs.Numbers.{little, numberAt}
 use Rattle.spec.specs.RuleLayout.{termBytes, termsBytes, subgoalBytes, subgoalsBytes, TermWithin, TermsWithin, Layout}
 use Rattle.spec.proofs.Bytes.Standing.{tagOf, numberOf, TermAt, TermsAt}
 use Rattle.spec.proofs.Bytes.NumberLaws.{value-little}
-use Rattle.spec.proofs.Lists.Places.{place-in, place-drop, place-less}
+use Rattle.spec.proofs.Lists.Places.{place-drop, place-less}
 use Rattle.spec.proofs.Bytes.Sizes.{term-size, terms-size, rule-parts}
 use Rattle.spec.proofs.Bytes.Starts.{startOf, start-next, start-within, start-end, drop-parts}
+use Rattle.spec.proofs.Lists.Counted.{place-in}
 
 -- Where subgoal j begins, and where the rule ends if there are j: two counts, the head's terms and the subgoals before it.
 unfoldable pub goalStart : Rule ℕ → ℕ → ℕ
@@ -63,7 +64,7 @@ drop-terms (t ∷ ts) rest (suc i) h = rw (append-assoc (termBytes t) (termsByte
 
 terms-here : (bytes : List ℕ) (at : ℕ) (ts : List (Term ℕ)) (rest : List ℕ) → drop at bytes ≡ termsBytes ts ++ rest → TermsWithin ts → TermsAt bytes at ts
 terms-here bytes at ts rest e within =
-    record { term = λ i t p. term-here bytes (at + 5 * i) (termsBytes (drop (suc i) ts) ++ rest) t (here i t p) (within t (place-in ts (suc i) t p)) }
+    record { term = λ i t p. term-here bytes (at + 5 * i) (termsBytes (drop (suc i) ts) ++ rest) t (here i t p) (within t (place-in ts (suc i) p)) }
   where
     here : (i : ℕ) (t : Term ℕ) → place ts (suc i) ≡ some t → drop (at + 5 * i) bytes ≡ termBytes t ++ (termsBytes (drop (suc i) ts) ++ rest)
     here i t p =
@@ -115,4 +116,4 @@ module _ {arities : List ℕ} {most : ℕ} {bytes : List ℕ} {r : Rule ℕ} (l 
     goal-relation = at-front bytes (goalStart r j) (g .relation) (termsBytes (g .terms) ++ subgoalsBytes (drop (suc j) (r .body))) goal-here
 
     pub goal-terms : TermsAt bytes (goalStart r j + 1) (g .terms)
-    goal-terms = terms-here bytes (goalStart r j + 1) (g .terms) (subgoalsBytes (drop (suc j) (r .body))) (rw (← drop-drop 1 (goalStart r j) bytes, goal-here)) (l .within .body g (place-in (r .body) (suc j) g p))
+    goal-terms = terms-here bytes (goalStart r j + 1) (g .terms) (subgoalsBytes (drop (suc j) (r .body))) (rw (← drop-drop 1 (goalStart r j) bytes, goal-here)) (l .within .body g (place-in (r .body) (suc j) p))

@@ -9,7 +9,8 @@ use native.Mathlib.Decide.{ℕ-discrete, map-dec}
 use Rattle.spec.specs.Words.{_∈_, Term, var, con, Subgoal, Rule, Safe, DistinctVariables}
 use Rattle.spec.specs.Summaries.{place}
 use Rattle.spec.proofs.Lists.Finite.{decided, contrary, each-or-not, some-in, is-in}
-use Rattle.spec.proofs.Lists.Places.{in-place, place-in, no-place, nothing}
+use Rattle.spec.proofs.Lists.Places.{no-place, nothing}
+use Rattle.spec.proofs.Lists.Counted.{from-one, place-in}
 
 same-term : (t u : Term ℕ) → Dec (t ≡ u)
 same-term (var x) (var y) = map-dec (ap var) (λ e. cc) (ℕ-discrete x y)
@@ -71,7 +72,7 @@ distinct-or-not (con c ∷ ts) = inr (inl (c, List·Memᴰ·head refl))
 distinct-or-not (var x ∷ ts) = go (is-in same-term (var x) ts) (distinct-or-not ts)
   where
     go : Dec (var x ∈ ts) → DistinctVariables ts ⊎ (Constant ts ⊎ Twice ts) → DistinctVariables (var x ∷ ts) ⊎ (Constant (var x ∷ ts) ⊎ Twice (var x ∷ ts))
-    go (yes m) rest = let w = in-place ts (var x) m in inr (inr (x, 1, suc (suc (w .0)), omega arith, refl, w .1))
+    go (yes m) rest = let w = from-one ts m in inr (inr (x, 1, suc (suc (w .0)), omega arith, refl, w .1))
     go (no f) (inr w) = inr (later (var x) ts w)
     go (no f) (inl d) = inl (f, d)
 
@@ -86,7 +87,7 @@ twice-not (con c ∷ ts) x i j l p q h = h
 twice-not (var y ∷ ts) x zero j l p q h = nothing p
 twice-not (var y ∷ ts) x (suc i) zero l p q h = nothing q
 twice-not (var y ∷ ts) x (suc i) (suc zero) l p q h = omega arith
-twice-not (var y ∷ ts) x (suc zero) (suc (suc j)) l p q h = h .0 (let same : var y ≡ var x = cc in rw same (place-in ts (suc j) (var x) q))
+twice-not (var y ∷ ts) x (suc zero) (suc (suc j)) l p q h = h .0 (let same : var y ≡ var x = cc in rw same (place-in ts (suc j) q))
 twice-not (var y ∷ ts) x (suc (suc i)) (suc (suc j)) l p q h = twice-not ts x (suc i) (suc j) (omega arith) p q (h .1)
 
 module _ (ts : List (Term ℕ)) where

@@ -9,7 +9,7 @@ use Rattle.spec.specs.RuleLayout.{termBytes, termsBytes, subgoalBytes, s
 use Rattle.spec.specs.BookLayout.{Arities, questionMost, summaryMost}
 use Rattle.spec.proofs.Bytes.NumberLaws.{length-little}
 use Rattle.spec.proofs.Lists.Joined.{joined-least, joined-most}
-use Rattle.spec.proofs.Lists.Places.{getD-in}
+use Rattle.spec.proofs.Lists.At.{getD-in}
 
 -- "A term: one byte .., then four bytes."
 pub term-size : (t : Term ℕ) → length (termBytes t) ≡ 5
@@ -38,7 +38,7 @@ module _ (r : Rule ℕ) where
 -- "each an arity 1 to 8"
 pub terms-few : {arities : List ℕ} → Arities arities → (g : Subgoal (Term ℕ)) → Fits arities g → (1 ≤ length (g .terms)) × (length (g .terms) ≤ 8)
 terms-few {arities} a g f =
-    let range = a .range (getD arities (g .relation) 0) (getD-in arities (g .relation) 0 (f .known)) in
+    let range = a .range (getD arities (g .relation) 0) (getD-in 0 arities (g .relation) (f .known)) in
     omega (arith, f .long)
 
 module _ {arities : List ℕ} (a : Arities arities) (r : Rule ℕ) where

@@ -12,9 +12,10 @@ use Rattle.spec.specs.Numbers.{little, numberAt}
 use Rattle.spec.specs.BookLayout.{StampedBody, entries, contentsEnd, contentsFrom, bodies}
 use Rattle.spec.specs.Contents.{count, entriesIn, offsetAt, lengthAt, stampAt, partAt, beginAt, NoGaps}
 use Rattle.spec.proofs.Bytes.NumberLaws.{value-little}
-use Rattle.spec.proofs.Lists.Places.{place-some, place-in, place-drop, place-less}
+use Rattle.spec.proofs.Lists.Places.{place-some, place-drop, place-less}
 use Rattle.spec.proofs.Bytes.Laid.{laid, contents-end, laid-size}
 use Rattle.spec.proofs.Bytes.Starts.{bodyOf, startOf, start-next, start-within, start-end, drop-contents, drop-parts}
+use Rattle.spec.proofs.Lists.Counted.{place-in}
 
 -- The numbers of the contents fit their bytes.
 pub record ContentsFit (n : ℕ) (es : List StampedBody) : Type 0 where
@@ -59,7 +60,7 @@ module _ (n : ℕ) (es : List StampedBody) (fits : ContentsFit n es) where
     unfolding stampAt numberAt
     laid-stamp =
         let later : 10 + 12 * i ≡ 2 + 12 * i + 8 = omega arith in
-        rw (later, ← drop-drop 8 (2 + 12 * i) (laid n es), twelve) (value-little 4 (e .stamp) (fits .stamps e (place-in es (suc i) e stands)))
+        rw (later, ← drop-drop 8 (2 + 12 * i) (laid n es), twelve) (value-little 4 (e .stamp) (fits .stamps e (place-in es (suc i) stands)))
 
     from-start : drop start (laid n es) ≡ e .body ++ joined (bodies (drop (suc i) es))
     unfolding laid

@@ -1,7 +1,6 @@
 -- Some bytes give a containment mapping exactly where there is one: there, from the question to the expansion; back, the other way.
 use mathlib.Core.Path.{refl, sym, subst}
-use mathlib.Core.Logic.{⊎-elim}
-use mathlib.Core.List.{List, [], _∷_, map, List·Memᴰ·head, List·Memᴰ·tail, Memᴰ·map, Memᴰ·of-map, Memᴰ·cast, List·Memᴰ·append-cases, Memᴰ·append-left, Memᴰ·append-right, List·Memᴰ·not-nil}
+use mathlib.Core.List.{List, [], _∷_, map, List·Memᴰ·head, List·Memᴰ·tail, Memᴰ·map, Memᴰ·of-map, Memᴰ·cast, List·Memᴰ·not-nil}
 use Prim.Native.Nat.{ℕ}
 use Rattle.spec.specs.Words.{_∈_, Term, con, Subgoal, Rule, becomes, each, Mapping}
 use Rattle.spec.specs.Summaries.{Summaries, uses, joined, expansion}
@@ -9,14 +8,7 @@ use Rattle.spec.specs.Answer.{Sends, AtPlaces, AtPairs, There, Back, Fir
 use Rattle.spec.proofs.Lists.Counted.{place-of, place-in}
 use Rattle.spec.proofs.Lists.Enumerate.{enumerates-some}
 use Rattle.spec.proofs.Decided.Witness.{theres, theres-enumerate, backs, backs-enumerate}
-
-pub joined-out : {A : Type 0} {a : A} (ls : List (List A)) → a ∈ joined ls → (l : List A) × (l ∈ ls) × (a ∈ l)
-joined-out [] m = absurd (List·Memᴰ·not-nil m)
-joined-out (l ∷ ls) m = ⊎-elim (λ i. (l, List·Memᴰ·head refl, i)) (λ i. let w = joined-out ls i in (w .0, List·Memᴰ·tail (w .1), w .2)) (List·Memᴰ·append-cases l m)
-
-pub joined-in : {A : Type 0} {a : A} (l : List A) (ls : List (List A)) → l ∈ ls → a ∈ l → a ∈ joined ls
-joined-in {a = a} l (m ∷ ls) (List·Memᴰ·head e) i = Memᴰ·append-left (joined ls) (subst (λ k. a ∈ k) e i)
-joined-in l (m ∷ ls) (List·Memᴰ·tail j) i = Memᴰ·append-right m (joined-in l ls j i)
+use Rattle.spec.proofs.Lists.Joined.{joined-in, joined-out}
 
 -- what is named stands there, and what stands there has a name
 module _ {A : Type 0} where

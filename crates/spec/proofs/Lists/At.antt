@@ -3,7 +3,7 @@ use mathlib.Core.Path.{_≡_, refl, sym, ap}
 use mathlib.Core.Bool.{Bool, true, false, cond, not}
 use mathlib.Core.Option.{some, Option·none-ne-some, Option·some-injective}
 use mathlib.Core.List.{List, [], _∷_, map, List·Memᴰ·head, List·Memᴰ·tail, List·Memᴰ·not-nil}
-use Prim.Native.Nat.{ℕ, zero, suc, _+_, _≤_, _<_}
+use Prim.Native.Nat.{ℕ, zero, suc, _+_, _≤_, _<_, _-_}
 use native.Mathlib.Omega.{arith}
 use lib.Dec.{eqb, eqb→eq, not-T, T-not}
 use lib.ListN.{length, getD}
@@ -122,3 +122,11 @@ pub mapped : {A : Type 0} (f : A → ℕ) (l : List A) (k d : ℕ) (a : A) → p
 mapped f [] k d a p = nothing p
 mapped f (b ∷ l) zero d a p = let same : b ≡ a = cc in ap f same
 mapped f (b ∷ l) (suc k) d a p = mapped f l k d a p
+
+pub empty : (t : List ℕ) → length t ≤ 0 → t ≡ []
+empty [] h = refl
+empty (y ∷ t) h = absurd (omega arith)
+
+pub none-in : (l : List ℕ) (u : ℕ) → length l ≤ 0 → u ∈ l → ⊥
+none-in [] u h i = List·Memᴰ·not-nil i
+none-in (v ∷ l) u h i = omega arith

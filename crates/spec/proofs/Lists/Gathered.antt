@@ -1,6 +1,6 @@
 -- Lists gathered from the members of a list, or those that pass a test, and what their members are.
 use mathlib.Core.Path.{_≡_, refl, sym, ap, ap₂, _∙_, subst}
-use mathlib.Core.Logic.{⊎-elim}
+use mathlib.Core.Logic.{⊎-elim, _⊎_}
 use mathlib.Core.Bool.{Bool, true, false, cond}
 use mathlib.Core.Option.{Option, some, none}
 use mathlib.Core.List.{List, [], _∷_, _++_, map, head-eq-of-cons-eq, tail-eq-of-cons-eq, List·Memᴰ·head, List·Memᴰ·tail, List·Memᴰ·append-cases, Memᴰ·append-left, Memᴰ·append-right, List·Memᴰ·not-nil}
@@ -65,3 +65,19 @@ map-same f g (a ∷ l) h = ap₂ _∷_ (h a (List·Memᴰ·head refl)) (map-same
 pub same-map : {A B : Type 0} (f g : A → B) (l : List A) → map f l ≡ map g l → (a : A) → a ∈ l → f a ≡ g a
 same-map f g (b ∷ l) e a (List·Memᴰ·head p) = ap f p ∙ head-eq-of-cons-eq e ∙ ap g (sym p)
 same-map f g (b ∷ l) e a (List·Memᴰ·tail i) = same-map f g l (tail-eq-of-cons-eq e) a i
+
+pub map-itself : {A : Type 0} (l : List A) → map (λ a. a) l ≡ l
+map-itself [] = refl
+map-itself (a ∷ l) = ap (_∷_ a) (map-itself l)
+
+pub map-in : {A B : Type 0} (f : A → B) (l : List A) (a : A) → a ∈ l → f a ∈ map f l
+map-in f (b ∷ l) a (List·Memᴰ·head e) = List·Memᴰ·head (ap f e)
+map-in f (b ∷ l) a (List·Memᴰ·tail i) = List·Memᴰ·tail (map-in f l a i)
+
+pub map-append : {A B : Type 0} (f : A → B) (l m : List A) → map f (l ++ m) ≡ map f l ++ map f m
+map-append f [] m = refl
+map-append f (a ∷ l) m = ap (λ r. f a ∷ r) (map-append f l m)
+
+pub map-map : {A B C : Type 0} (f : A → B) (g : B → C) (l : List A) → map g (map f l) ≡ map (λ a. g (f a)) l
+map-map f g [] = refl
+map-map f g (a ∷ l) = ap (λ r. g (f a) ∷ r) (map-map f g l)

@@ -1,23 +1,11 @@
 -- What stands where in a list.
-use mathlib.Core.Path.{_≡_, refl, sym, ap₂}
+use mathlib.Core.Path.{_≡_, refl, ap₂, ap, _∙_}
 use mathlib.Core.Option.{some, none}
-use mathlib.Core.List.{List, [], _∷_, map, List·Memᴰ·head, List·Memᴰ·tail}
-use Prim.Native.Nat.{ℕ, zero, suc, _<_}
+use mathlib.Core.List.{List, [], _∷_, map, _++_}
+use Prim.Native.Nat.{ℕ, zero, suc, _<_, _+_}
 use native.Mathlib.Omega.{arith}
-use lib.ListN.{length, getD, drop}
-use Rattle.spec.specs.Words.{_∈_}
+use lib.ListN.{length, drop, take}
 use Rattle.spec.specs.Summaries.{place}
-use Rattle.spec.proofs.Lists.Counted as counted
-
-pub getD-in : {A : Type 0} (l : List A) (i : ℕ) (d : A) → i < length l → getD l i d ∈ l
-getD-in [] i d h = absurd (omega arith)
-getD-in (a ∷ l) zero d h = List·Memᴰ·head refl
-getD-in (a ∷ l) (suc i) d h = List·Memᴰ·tail (getD-in l i d (omega arith))
-
--- What is in a list stands somewhere in it, counted from 0.
-pub place-of : {A : Type 0} {a : A} {l : List A} (d : A) → a ∈ l → (k : ℕ) × (k < length l) × (getD l k d ≡ a)
-place-of d (List·Memᴰ·head e) = (0, omega arith, sym e)
-place-of d (List·Memᴰ·tail m) = let p = place-of d m in (suc (p .0), omega arith, p .2)
 
 -- A place up to the length has something.
 pub place-some : {A : Type 0} (l : List A) (i : ℕ) → i < length l → (a : A) × (place l (suc i) ≡ some a)
@@ -34,10 +22,7 @@ module _ {A : Type 0} where
   no-place [] e = nothing e
   no-place (b ∷ l) e = nothing e
 
-  -- What stands at a place is in the list, and is followed by the rest.
-  pub place-in : (l : List A) (i : ℕ) (a : A) → place l i ≡ some a → a ∈ l
-  place-in l i a e = counted.place-in l i e
-
+  -- What stands at a place is followed by the rest.
   pub place-drop : (l : List A) (i : ℕ) (a : A) → place l (suc i) ≡ some a → drop i l ≡ a ∷ drop (suc i) l
   place-drop [] i a e = nothing e
   place-drop (b ∷ l) zero a e = cc
@@ -54,6 +39,16 @@ module _ {A : Type 0} where
   place-map f (b ∷ l) (suc zero) a e = cc
   place-map f (b ∷ l) (suc (suc i)) a e = place-map f l (suc i) a e
 
+  -- what stands in the first list, and behind it
+  pub place-before : (l m : List A) (k : ℕ) → k < length l → place (l ++ m) (suc k) ≡ place l (suc k)
+  place-before [] m k h = absurd (omega arith)
+  place-before (b ∷ l) m zero h = refl
+  place-before (b ∷ l) m (suc k) h = place-before l m k (omega arith)
+
+  pub place-behind : (l m : List A) (k : ℕ) → place (l ++ m) (suc (length l + k)) ≡ place m (suc k)
+  place-behind [] m k = ap (λ n. place m (suc n)) (let e : 0 + k ≡ k = omega arith in e)
+  place-behind (b ∷ l) m k = let e : suc (length l) + k ≡ suc (length l + k) = omega arith in ap (λ n. place (b ∷ l ++ m) (suc n)) e ∙ place-behind l m k
+
   -- Two lists as long as each other, with the same at each place, are the same.
   pub places-same : (l m : List A) → length l ≡ length m → ((i : ℕ) (a b : A) → place l (suc i) ≡ some a → place m (suc i) ≡ some b → a ≡ b) → l ≡ m
   places-same [] [] e h = refl
@@ -61,7 +56,8 @@ module _ {A : Type 0} where
   places-same (a ∷ l) [] e h = absurd (omega arith)
   places-same (a ∷ l) (b ∷ m) e h = ap₂ _∷_ (h 0 a b refl refl) (places-same l m (omega arith) (λ i. h (suc i)))
 
-  -- What is in a list stands at a place.
-  pub in-place : (l : List A) (a : A) → a ∈ l → (i : ℕ) × (place l (suc i) ≡ some a)
-  in-place (b ∷ l) a (List·Memᴰ·head e) = (0, cc)
-  in-place (b ∷ l) a (List·Memᴰ·tail m) = let w = in-place l a m in (suc (w .0), w .1)
+-- the elements up to a place, and the one there
+pub take-place : {A : Type 0} (l : List A) (i : ℕ) (a : A) → place l (suc i) ≡ some a → take (suc i) l ≡ take i l ++ (a ∷ [])
+take-place [] i a p = nothing p
+take-place (b ∷ l) zero a p = let same : b ≡ a = cc in ap (λ c. c ∷ []) same
+take-place (b ∷ l) (suc i) a p = ap (_∷_ b) (take-place l i a p)

@@ -2,7 +2,7 @@
 use mathlib.Core.Path.{refl, sym, subst}
 use mathlib.Core.Logic.{⊎-elim, _⊎_}
 use mathlib.Core.Bool.{Bool, true, false, cond}
-use mathlib.Core.List.{List, [], _∷_, _++_, map, List·Memᴰ·head, List·Memᴰ·tail, Memᴰ·of-map, List·Memᴰ·append-cases, List·Memᴰ·not-nil}
+use mathlib.Core.List.{List, [], _∷_, _++_, map, List·Memᴰ·head, List·Memᴰ·tail, Memᴰ·of-map, List·Memᴰ·append-cases, List·Memᴰ·not-nil, Memᴰ·append-right}
 use Prim.Native.Nat.{ℕ, _+_, _-_}
 use Rattle.spec.specs.Words.{_∈_, Term, Subgoal}
 use Rattle.spec.specs.Order.{RowBefore, Ascending}
@@ -67,3 +67,9 @@ ascending-rising (g ∷ h ∷ l) p = go (ascending-rising (h ∷ l) (p .1))
 pub rising-right : {A : Type 0} (before : A → A → Type 0) (l m : List A) → Rising before (l ++ m) → Rising before m
 rising-right before [] m r = r
 rising-right before (a ∷ l) m r = rising-right before l m (r .1)
+
+-- what stands before something in a rising list is before it
+pub rising-across : {A : Type 0} (Before : A → A → Type 0) (done rest : List A) → Rising Before (done ++ rest) → (a b : A) → a ∈ done → b ∈ rest → Before a b
+rising-across Before [] rest r a b i j = absurd (List·Memᴰ·not-nil i)
+rising-across Before (c ∷ done) rest r a b (List·Memᴰ·head e) j = subst (λ z. Before z b) (sym e) (r .0 b (Memᴰ·append-right done j))
+rising-across Before (c ∷ done) rest r a b (List·Memᴰ·tail i) j = rising-across Before done rest (r .1) a b i j

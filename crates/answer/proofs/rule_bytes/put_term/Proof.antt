@@ -6,7 +6,7 @@ use lib.Seq.{sets}
 use mathlib.Core.List.{_∷_}
 use Prim.Native.Nat.{_%_}
 use Rattle.spec.specs.Numbers.{little}
-use Rattle.answer.proofs.RuleStores.{five}
+use Rattle.spec.proofs.Lists.Stores.{five}
 use Rattle.answer.proofs.rule_bytes.put_term.Statement.{statement}
 use Rattle.answer.proofs.rule_bytes.put_term.Tie as tie
 use Rattle.answer.proofs.rule_bytes.put_term.Reads as reads

@@ -1,10 +1,9 @@
-use mathlib.Core.Path.{_≡_, refl, ap, _∙_}
+use mathlib.Core.Path.{_≡_, refl}
 use Prim.Native.Nat.{ℕ, _-_, _*_, _/_, _<_, _≤_}
 use native.Mathlib.Omega.{arith}
-use native.Mathlib.Decide.{decLt}
-use borrow.Author.Needs.{needs}
 use lib.ListN.{length, getD}
-use Rattle.row_choice.proofs.PairSteps.{none-yet, true-not-false}
+use Rattle.row_choice.proofs.PairSteps.{none-yet}
+use Rattle.spec.proofs.Lists.Tests.{true-not-false}
 use Rattle.row_choice.proofs.dominators.has_relation.Statement.{statement}
 use Rattle.row_choice.proofs.dominators.has_relation.Tie as tie
 

@@ -1,6 +1,5 @@
 use borrow.Author.Needs.{needs}
-use Rattle.rule_codes.proofs.WalkSteps.{walk-long, widths-end}
-use Rattle.rule_codes.proofs.WalkSteps.{heads-few, relation-there, room-there, next-there, width-stored}
+use Rattle.rule_codes.proofs.WalkSteps.{walk-long, widths-end, heads-few, relation-there, room-there, next-there, width-stored}
 use Prim.Native.Nat.{_≤_, _-_}
 use native.Mathlib.Omega.{arith}
 use Rattle.rule_codes.proofs.Walks.{WalkedTo, walk-starts, walk-goes}

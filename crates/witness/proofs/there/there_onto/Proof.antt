@@ -22,50 +22,50 @@ mul-source : tie.Need-mul-source
 mul-source c =
     let question-source = c .before .before .before .question-source in
     let w = c .before .before .before .before .before .before .before .before .before .before .before .pre in
-    let v = w .0 .onto .is .list .sound in omega (arith, goals-few _ v (question-source .ensures))
+    let v = w .0 .onto .is .targets .list .sound in omega (arith, goals-few _ v (question-source .ensures))
 
 array-share-prefix-source : tie.Need-array-share-prefix-source
 array-share-prefix-source c =
     let question-source = c .before .before .before .question-source in
     let w = c .before .before .before .before .before .before .before .before .before .before .before .pre in
-    let v = w .0 .onto .is .list .sound in source-room _ v (question-source .ensures) (omega arith)
+    let v = w .0 .onto .is .targets .list .sound in source-room _ v (question-source .ensures) (omega arith)
 
 slice-aggregate-first-places : tie.Need-slice-aggregate-first-places
 slice-aggregate-first-places c =
     let question-source = c .before .before .before .before .question-source in
     let w = c .before .before .before .before .before .before .before .before .before .before .before .before .pre in
-    let v = w .0 .onto .is .list .sound in sym (length-take-le _ _ (source-room _ v (question-source .ensures) (omega arith)))
+    let v = w .0 .onto .is .targets .list .sound in sym (length-take-le _ _ (source-room _ v (question-source .ensures) (omega arith)))
 
 array-share-prefix-widths : tie.Need-array-share-prefix-widths
 array-share-prefix-widths c =
     let question-source = c .before .before .before .before .question-source in
     let w = c .before .before .before .before .before .before .before .before .before .before .before .before .pre in
-    let v = w .0 .onto .is .list .sound in widths-room _ v (question-source .ensures) (omega arith)
+    let v = w .0 .onto .is .targets .list .sound in widths-room _ v (question-source .ensures) (omega arith)
 
 slice-aggregate-first-places-2 : tie.Need-slice-aggregate-first-places-2
 slice-aggregate-first-places-2 c =
     let question-source = c .before .before .before .before .before .question-source in
     let w = c .before .before .before .before .before .before .before .before .before .before .before .before .before .pre in
-    let v = w .0 .onto .is .list .sound in sym (length-take-le _ _ (widths-room _ v (question-source .ensures) (omega arith)))
+    let v = w .0 .onto .is .targets .list .sound in sym (length-take-le _ _ (widths-room _ v (question-source .ensures) (omega arith)))
 
 array-share-prefix-lasts : tie.Need-array-share-prefix-lasts
 array-share-prefix-lasts c =
     let question-source = c .before .before .before .before .before .question-source in
     let w = c .before .before .before .before .before .before .before .before .before .before .before .before .before .pre in
-    let v = w .0 .onto .is .list .sound in goals-few _ v (question-source .ensures)
+    let v = w .0 .onto .is .targets .list .sound in goals-few _ v (question-source .ensures)
 
 slice-aggregate-first-places-3 : tie.Need-slice-aggregate-first-places-3
 slice-aggregate-first-places-3 c =
     let question-source = c .before .before .before .before .before .before .question-source in
     let w = c .before .before .before .before .before .before .before .before .before .before .before .before .before .before .pre in
-    let v = w .0 .onto .is .list .sound in sym (length-take-le _ _ (goals-few _ v (question-source .ensures)))
+    let v = w .0 .onto .is .targets .list .sound in sym (length-take-le _ _ (goals-few _ v (question-source .ensures)))
 
 first-places-requires : tie.Need-first-places-requires
 first-places-requires c κs =
     let question-bindings = c .before .before .before .question-bindings in
     let question-source = c .before .before .before .before .before .before .question-source in
     let w = c .before .before .before .before .before .before .before .before .before .before .before .before .before .before .pre in
-    there-lent _ _ (w .0 .onto .is) (question-source .ensures) (question-bindings .ensures)
+    there-lent _ _ (w .0 .onto .is .targets) (question-source .ensures) (question-bindings .ensures)
 
 put-pairs-requires : tie.Need-put-pairs-requires
 put-pairs-requires c κs =
@@ -79,7 +79,7 @@ mul-result : tie.Need-mul-result
 mul-result c =
     let question-source = c .before .before .before .before .before .before .before .before .before .before .before .before .before .question-source in
     let w = c .before .before .before .before .before .before .before .before .before .before .before .before .before .before .before .before .before .before .before .before .before .pre in
-    let v = w .0 .onto .is .list .sound in omega (arith, goals-few _ v (question-source .ensures))
+    let v = w .0 .onto .is .targets .list .sound in omega (arith, goals-few _ v (question-source .ensures))
 
 returns : tie.Need-returns
 returns c =

@@ -52,14 +52,14 @@ there-along-requires c κs =
     let use-starts = c .before .before .before .before .use-starts in
     let expand = c .before .before .before .before .before .before .before .before .before .expand in
     let w = c .before .before .before .before .before .before .before .before .before .before .before .before .before .before .before .before .pre in
-    stood (expand .ensures .0) (expand .ensures .1) (expand .ensures .2) (expand .ensures .3) (use-starts .ensures) w
+    stood (expand .ensures .0) (expand .ensures .1) (expand .ensures .2) (use-starts .ensures) w
 
 returns : tie.Need-returns
 returns c =
     let there-along = c .there-along in
     let use-starts = c .before .before .before .before .before .use-starts in
     let expand = c .before .before .before .before .before .before .before .before .before .before .expand in
-    there-confirmed (expand .ensures .0) (expand .ensures .1) (expand .ensures .2) (expand .ensures .3) (use-starts .ensures) (there-along .ensures)
+    there-confirmed (expand .ensures .0) (expand .ensures .1) (expand .ensures .2) (use-starts .ensures) (there-along .ensures)
 
 pub goes-there-spec : {M : Type 1} → statement M
 goes-there-spec =
