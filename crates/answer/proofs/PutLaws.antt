@@ -37,16 +37,14 @@ use Rattle.answer.specs.Steps.{PutNeeds}
 use Rattle.answer.proofs.Means.{RowWithin, rewriting-means}
 
 module _ {answer witness : ℕ} (room : Fault1 answer witness → ⊥) where
-  pub answer-room : 534 ≤ answer
-  unfolding answerRoom
-  answer-room = elim (decLt answer 534) [
+  pub answer-room : answerRoom ≤ answer
+  answer-room = elim (decLt answer answerRoom) [
     | yes h ↦ absurd (room (inl h))
     | no h ↦ omega arith
   ]
 
-  pub witness-room : 120 ≤ witness
-  unfolding witnessRoom
-  witness-room = elim (decLt witness 120) [
+  pub witness-room : witnessRoom ≤ witness
+  witness-room = elim (decLt witness witnessRoom) [
     | yes h ↦ absurd (room (inr h))
     | no h ↦ omega arith
   ]
@@ -137,7 +135,6 @@ module _ {book codes widths : List ℕ} {k : ℕ} (a w : List ℕ) (p : PutNeeds
     given = record { room = p .room; value = p .value; sound = p .sound; few = p .few; result = result; right = record { answers = p .answers; goes = goes .first; returns = returns .first } }
 
     witness-holds : w₂ ≡ atFront (witnessBytes result) w
-    unfolding witnessRoom
     witness-holds =
         returns .written ∙ ap (λ x. sets x m (returns .bytes)) (goes .written) ∙ sets-next w 0 m (goes .bytes) (returns .bytes) (omega (arith, goes .long))
         ∙ stored-front (goes .bytes ++ returns .bytes) w (omega (arith, witness-fits given, witness-room (p .room)))
@@ -147,7 +144,6 @@ module _ {book codes widths : List ℕ} {k : ℕ} (a w : List ℕ) (p : PutNeeds
       answer-is = ap (rewritingBytes body codes widths) (sym (p .count)) ∙ rewriting-means q body codes widths (p .list) (p .rest) (p .more) (body-is p part) (row-writes p) (p .codes-are) (p .widths-are)
 
       answer-holds : a₁ ≡ atFront (answerBytes q result) a
-      unfolding answerRoom
       answer-holds = stored ∙ ap (sets a 0) answer-is ∙ stored-front (answerBytes q result) a (omega (arith, answer-fits given, answer-room (p .room)))
 
       pub accepted : Accepted book a a₁ w w₂ o (m + n)

@@ -6,7 +6,10 @@ use lib.Dec.{ltb}
 use lib.ListN.{length, getD, take, drop}
 use Rattle.spec.specs.Summaries.{joined}
 use Rattle.spec.specs.Numbers.{little}
-use Rattle.codes.specs.Code.{constantTag}
+use Rattle.spec.specs.Table.{answerRoom}
+use Rattle.spec.specs.BookLayout.{mostArity, questionMost}
+use Rattle.spec.specs.RuleLayout.{mostHead}
+use Rattle.codes.specs.Code.{constantTag, subgoalSize}
 
 -- "one byte 0 (variable) or 1 (constant)"
 unfoldable pub tagOf : ℕ → ℕ
@@ -21,7 +24,7 @@ codesBytes codes = joined (map codeBytes codes)
 
 -- "a summary number in each subgoal where a relation number stood": the row r, of so many terms
 abbrev pub rowBytes : List ℕ → ℕ → ℕ → List ℕ
-rowBytes codes r wide = getD codes (9 * r) 0 % 256 ∷ codesBytes (take wide (drop (9 * r + 1) codes))
+rowBytes codes r wide = getD codes (subgoalSize * r) 0 % 256 ∷ codesBytes (take wide (drop (subgoalSize * r + 1) codes))
 
 -- k rows from r on
 abbrev pub rowsBytes : List ℕ → List ℕ → ℕ → ℕ → List ℕ
@@ -30,9 +33,9 @@ rowsBytes codes widths r (suc k) = rowBytes codes r (getD widths r 0) ++ rowsByt
 
 -- k rows stand in the codes, none of more than eight terms
 pub record RowsStand (codes widths : List ℕ) (k : ℕ) : Type 0 where
-  pub stand : 9 * k ≤ length codes
+  pub stand : subgoalSize * k ≤ length codes
   pub told : k ≤ length widths
-  pub narrow : (r : ℕ) → getD widths r 0 ≤ 8
+  pub narrow : (r : ℕ) → getD widths r 0 ≤ mostArity
 
 -- the question's head, then k rows
 abbrev pub rewritingBytes : List ℕ → List ℕ → List ℕ → ℕ → List ℕ
@@ -40,8 +43,8 @@ rewritingBytes body codes widths k = getD body 0 0 ∷ k ∷ (take (5 * getD bod
 
 -- there is room for the longest rewriting, and the question's head and the rows stand where they are read
 pub record RuleBytesNeeds (out body codes widths : List ℕ) (k : ℕ) : Type 0 where
-  pub room : 534 ≤ length out
-  pub short : getD body 0 0 ≤ 8
+  pub room : answerRoom ≤ length out
+  pub short : getD body 0 0 ≤ mostHead
   pub head : 2 + 5 * getD body 0 0 ≤ length body
-  pub few : k ≤ 12
+  pub few : k ≤ questionMost
   pub rows : RowsStand codes widths k

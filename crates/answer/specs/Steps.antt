@@ -6,7 +6,7 @@ use lib.ListN.{length, getD}
 use Rattle.spec.specs.Words.{Term, Subgoal}
 use Rattle.spec.specs.Answer.{Answer}
 use Rattle.spec.specs.Book.{Book, admittedOf}
-use Rattle.spec.specs.BookLayout.{SoundBook}
+use Rattle.spec.specs.BookLayout.{SoundBook, mostArity, questionMost}
 use Rattle.spec.specs.Table.{Fault1, Fault9}
 use Rattle.spec.proofs.Decided.Rows.{allRows}
 use Rattle.codes.specs.Code.{termCode, codesOf, widthsOf}
@@ -23,12 +23,12 @@ pub record PutNeeds (book codes widths : List ℕ) (k answer witness : ℕ) : Ty
   pub list : List (Subgoal (Term ℕ))
   pub answers : Answer (admittedOf value) (value .question) list
   pub count : length list ≡ k
-  pub short : k ≤ 12
+  pub short : k ≤ questionMost
   pub rest : List ℕ
   pub codes-are : codes ≡ codesOf termCode list ++ rest
   pub more : List ℕ
   pub widths-are : widths ≡ widthsOf list ++ more
-  pub narrow : (r : ℕ) → getD widths r 0 ≤ 8
+  pub narrow : (r : ℕ) → getD widths r 0 ≤ mostArity
 
 -- The rows chosen of all summary rows.
 pub record AnswerNeeds (book rows : List ℕ) (n : ℕ) (chosen : Chosen) (answer witness : ℕ) : Type 0 where

@@ -3,6 +3,8 @@ ghost use mathlib.Core.Path.{_≡_};
 ghost use Prim.Native.Nat.{_+_, _*_, _≤_, _<_};
 ghost use lib.ListN.{length, take, drop};
 ghost use lib.Seq.{sets};
+ghost use Rattle.spec.specs.BookLayout.{mostArity};
+ghost use Rattle.codes.specs.Code.{subgoalSize};
 ghost use Rattle.answer.specs.Picked.{PickNeeds, pickedCodes, widthIn, pickedWidths};
 use codes::NONE;
 use codes::SUBGOAL_CODES;
@@ -13,8 +15,8 @@ const WIDEST: u8 = MOST_ARITY as u8;
 
 // How many terms a row has: a code of 1 stands where they have ended.
 fn width_in(codes: &[u64], r: usize) -> u8
-    requires { ⌜ 9 * r + 9 ≤ length (now codes) ⌝ }
-    ensures { λ n. ⌜ n ≡ widthIn (now (codes .entry)) (9 * r + 1) 8 ⌝ }
+    requires { ⌜ subgoalSize * r + subgoalSize ≤ length (now codes) ⌝ }
+    ensures { λ n. ⌜ n ≡ widthIn (now (codes .entry)) (subgoalSize * r + 1) mostArity ⌝ }
 {
     let mut n: u8 = 0;
     while n < WIDEST {
@@ -28,8 +30,8 @@ fn width_in(codes: &[u64], r: usize) -> u8
 
 // The nine codes of row r, behind i rows.
 fn copy_row(codes: &[u64], r: usize, out: &mut [u64], i: usize)
-    requires { ⌜ (9 * r + 9 ≤ length (now codes)) × (9 * i + 9 ≤ length (now out)) ⌝ }
-    ensures { λ _. ⌜ now (out .exit) ≡ sets (now (out .entry)) (9 * i) (take 9 (drop (9 * r) (now (codes .entry)))) ⌝ }
+    requires { ⌜ (subgoalSize * r + subgoalSize ≤ length (now codes)) × (subgoalSize * i + subgoalSize ≤ length (now out)) ⌝ }
+    ensures { λ _. ⌜ now (out .exit) ≡ sets (now (out .entry)) (subgoalSize * i) (take subgoalSize (drop (subgoalSize * r) (now (codes .entry)))) ⌝ }
 {
     let mut a: usize = 0;
     while a < SUBGOAL_CODES {

@@ -3,6 +3,8 @@ ghost use mathlib.Core.Path.{_≡_};
 ghost use Prim.Native.Nat.{_+_, _*_, _≤_, _<_};
 ghost use lib.ListN.{length, take, drop};
 ghost use lib.Seq.{sets};
+ghost use Rattle.spec.specs.BookLayout.{mostArity};
+ghost use Rattle.codes.specs.Code.{subgoalSize};
 ghost use Rattle.answer.specs.Bytes.{tagOf, codeBytes, codesBytes, rowBytes, rowsBytes, RowsStand, rewritingBytes, RuleBytesNeeds};
 use codes::CONSTANT;
 use codes::SUBGOAL_CODES;
@@ -45,7 +47,7 @@ fn put_terms(out: &mut [u8], at: usize, codes: &[u64], from: usize, k: usize)
 
 // The row r: its summary's number, then its terms.
 fn put_row(out: &mut [u8], at: usize, codes: &[u64], r: usize, wide: usize)
-    requires { ⌜ (at + 1 + 5 * wide ≤ length (now out)) × (9 * r + 1 + wide ≤ length (now codes)) ⌝ }
+    requires { ⌜ (at + 1 + 5 * wide ≤ length (now out)) × (subgoalSize * r + 1 + wide ≤ length (now codes)) ⌝ }
     ensures { λ _. ⌜ now (out .exit) ≡ sets (now (out .entry)) at (rowBytes (now (codes .entry)) r wide) ⌝ }
 {
     out[at] = (codes[SUBGOAL_CODES * r] % 256) as u8;
@@ -54,7 +56,7 @@ fn put_row(out: &mut [u8], at: usize, codes: &[u64], r: usize, wide: usize)
 
 // k rows, one after the other; answers the place behind them.
 fn put_rows(out: &mut [u8], at: usize, codes: &[u64], widths: &[u8], k: usize) -> usize
-    requires { ⌜ RowsStand (now codes) (now widths) k × (at + 41 * k ≤ length (now out)) ⌝ }
+    requires { ⌜ RowsStand (now codes) (now widths) k × (at + (1 + 5 * mostArity) * k ≤ length (now out)) ⌝ }
     ensures { λ r. ⌜ (now (out .exit) ≡ sets (now (out .entry)) at (rowsBytes (now (codes .entry)) (now (widths .entry)) 0 k)) × (r ≡ at + length (rowsBytes (now (codes .entry)) (now (widths .entry)) 0 k)) ⌝ }
 {
     let mut p = at;

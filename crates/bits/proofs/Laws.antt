@@ -1,6 +1,6 @@
 -- Members of the empty set, of a union, of a set with one more; when one set lies within another.
 use mathlib.Core.Path.{_≡_, refl, ap, sym, _∙_, subst}
-use mathlib.Core.Logic.{_⊎_, inl, inr, _↔_}
+use mathlib.Core.Logic.{_⊎_, inl, inr, ⊎-elim, _↔_}
 use mathlib.Core.Bool.{Bool, true, false, false≢true}
 use Prim.Native.Nat.{ℕ, zero, suc, _+_, _*_, _/_, _%_, _^_, _-_, _<_, _≤_, max, min}
 use native.Mathlib.Omega.{arith}
@@ -37,6 +37,9 @@ or-left a b x h = omega (arith, or-bit a b x)
 
 pub or-right : (a b x : ℕ) → Has b x → Has (bitOr a b) x
 or-right a b x h = rw (or-comm a b) (or-left b a x h)
+
+pub or-either : (a b x : ℕ) → Has a x ⊎ Has b x → Has (bitOr a b) x
+or-either a b x = ⊎-elim (or-left a b x) (or-right a b x)
 
 pub or-cases : (a b x : ℕ) → Has (bitOr a b) x → Has a x ⊎ Has b x
 unfolding Has

@@ -4,12 +4,15 @@ use mathlib.Core.Logic.{_↔_}
 use mathlib.Core.List.{List}
 use Prim.Native.Nat.{ℕ, _*_, _-_, _<_, _≤_}
 use native.Mathlib.Omega.{arith}
-use lib.ListN.{length, getD, take, replicate}
+use lib.ListN.{length, getD, take, replicate, length-map}
 use lib.Seq.{length-take-le}
 use Rattle.spec.specs.Words.{Term, Subgoal, Mapping}
 use Rattle.spec.specs.Summaries.{Summaries, Own, rewriting, uses, joined, expansion}
 use Rattle.spec.specs.Answer.{There, FirstThere}
 use Rattle.spec.specs.Book.{Book, admittedOf}
+use Rattle.spec.specs.BookLayout.{questionMost}
+use Rattle.spec.specs.Table.{mostRows}
+use Rattle.codes.specs.Code.{usesGoals}
 use Rattle.outcomes.specs.Bounds.{Bounds}
 use Rattle.outcomes.proofs.Bounds.{book-bounds}
 use Rattle.task.specs.Task.{Task, posed, Sized}
@@ -18,6 +21,7 @@ use Rattle.search_meaning.specs.Uses.{pairsOf}
 use Rattle.search_meaning.specs.HeadBound.{HeadBound}
 use Rattle.search_meaning.specs.Tasks.{thereTask}
 use Rattle.search_meaning.proofs.Owners.{owners-long, owners-below}
+use Rattle.search_meaning.proofs.InUse.{uses-few}
 use Rattle.search_meaning.proofs.Into.{there-sized}
 use Rattle.search_meaning.proofs.There.{there-is, there-first, there-some}
 use Rattle.book_codes.specs.Question.{SomeSound, QuestionSource, QuestionBound}
@@ -53,14 +57,20 @@ module _ {book target own : List ℕ} (b : Book) (l : List (Subgoal (Term ℕ)))
   pub owned : length own ≡ length (joined ls)
   owned = ap length (o .owns) ∙ owners-long 0 ls
 
-  pub few-goals : n ≤ 12
+  pub few-goals : n ≤ questionMost
   few-goals = goals-few b (o .list .sound) source
+
+  pub goals-are : length (take n new) ≡ n
+  goals-are = ap length (source-widths b (o .list .sound) source) ∙ length-map (b .question .body) _ ∙ sym (source .count b (o .list .sound))
+
+  pub all-few : length (joined ls) ≤ usesGoals
+  all-few = let f = o .list .few in omega (arith, uses-few (b .arities) s (b .question) bounds 0 l (o .list .within))
 
   marked : length lasts ≡ length (b .question .body)
   marked = length-take-le n (replicate 12 0) few-goals ∙ source .count b (o .list .sound)
 
-  pub own-small : (k : ℕ) → getD own k 0 < 64
-  own-small k = subst (λ m. getD m k 0 < 64) (sym (o .owns)) (owners-below s l (let f = o .list .few in omega arith) k)
+  pub own-small : (k : ℕ) → getD own k 0 < mostRows
+  own-small k = subst (λ m. getD m k 0 < mostRows) (sym (o .owns)) (owners-below s l (let f = o .list .few in omega arith) k)
 
   pub there-lent : Sized lent
   there-lent = subst Sized (sym task-is) (there-sized (b .arities) s (b .question) bounds l (o .list .within) lasts own bound owned (let f = o .list .few in omega arith) marked own-small)

@@ -3,7 +3,9 @@ ghost use mathlib.Core.Path.{_≡_};
 ghost use Prim.Native.Nat.{ℕ, _+_, _<_, _≤_};
 ghost use lib.ListN.{length, getD};
 ghost use Rattle.spec.specs.Contents.{partAt};
-ghost use Rattle.codes.specs.Code.{ownCode, ownSlot, keptSlot};
+ghost use Rattle.spec.specs.Table.{mostRows};
+ghost use Rattle.spec.specs.BookLayout.{summaryMost};
+ghost use Rattle.codes.specs.Code.{ownCode, ownSlot, keptSlot, summaryCodes};
 ghost use Rattle.book_codes.specs.RowGiven.{RowGiven};
 ghost use Rattle.book_codes.specs.OneUse.{OneUse, OneCount, OneWidths};
 use books::parts::part_of;
@@ -23,7 +25,7 @@ fn summary_of<'a>(book: &'a [u8], row: &[u64]) -> &'a [u8]
 
 // As a target, numbered u: its own variables are apart from every other use's. Returns how many subgoals there are.
 pub fn own_use(book: &[u8], row: &[u64], u: u64, out: &mut [u64]) -> usize
-    requires { ⌜ RowGiven (now book) (now row) × (u < 64) × (72 ≤ length (now out)) ⌝ }
+    requires { ⌜ RowGiven (now book) (now row) × (u < mostRows) × (summaryCodes ≤ length (now out)) ⌝ }
     ensures { λ r. ⌜ OneUse (now (book .entry)) (now (row .entry)) ownCode u (now (out .entry)) (now (out .exit)) r ⌝ }
 {
     let body = summary_of(book, row);
@@ -41,7 +43,7 @@ pub fn use_count(book: &[u8], row: &[u64]) -> usize
 
 // How many terms each of its subgoals has.
 fn use_widths(book: &[u8], row: &[u64], widths: &mut [u8])
-    requires { ⌜ RowGiven (now book) (now row) × (8 ≤ length (now widths)) ⌝ }
+    requires { ⌜ RowGiven (now book) (now row) × (summaryMost ≤ length (now widths)) ⌝ }
     ensures { λ _. ⌜ OneWidths (now (book .entry)) (now (row .entry)) (now (widths .entry)) (now (widths .exit)) ⌝ }
 {
     let body = summary_of(book, row);
@@ -51,7 +53,7 @@ fn use_widths(book: &[u8], row: &[u64], widths: &mut [u8])
 
 // As a source: the list's variables and its own are slots apart from each other. Returns how many subgoals there are.
 pub fn slot_use(book: &[u8], row: &[u64], out: &mut [u64], widths: &mut [u8]) -> usize
-    requires { ⌜ RowGiven (now book) (now row) × (72 ≤ length (now out)) × (8 ≤ length (now widths)) ⌝ }
+    requires { ⌜ RowGiven (now book) (now row) × (summaryCodes ≤ length (now out)) × (summaryMost ≤ length (now widths)) ⌝ }
     ensures { λ r. ⌜ ((u : ℕ) → OneUse (now (book .entry)) (now (row .entry)) ownSlot u (now (out .entry)) (now (out .exit)) r) × OneWidths (now (book .entry)) (now (row .entry)) (now (widths .entry)) (now (widths .exit)) ⌝ }
 {
     use_widths(book, row, widths);
@@ -62,7 +64,7 @@ pub fn slot_use(book: &[u8], row: &[u64], out: &mut [u64], widths: &mut [u8]) ->
 
 // As a source that keeps the row's terms: only its own variables are slots. Returns how many subgoals there are.
 pub fn kept_use(book: &[u8], row: &[u64], out: &mut [u64], widths: &mut [u8]) -> usize
-    requires { ⌜ RowGiven (now book) (now row) × (72 ≤ length (now out)) × (8 ≤ length (now widths)) ⌝ }
+    requires { ⌜ RowGiven (now book) (now row) × (summaryCodes ≤ length (now out)) × (summaryMost ≤ length (now widths)) ⌝ }
     ensures { λ r. ⌜ ((u : ℕ) → OneUse (now (book .entry)) (now (row .entry)) keptSlot u (now (out .entry)) (now (out .exit)) r) × OneWidths (now (book .entry)) (now (row .entry)) (now (widths .entry)) (now (widths .exit)) ⌝ }
 {
     use_widths(book, row, widths);

@@ -1,6 +1,8 @@
 // The question of a sound book as codes.
 ghost use Prim.Native.Nat.{_≤_};
 ghost use lib.ListN.{length};
+ghost use Rattle.spec.specs.BookLayout.{questionMost};
+ghost use Rattle.codes.specs.Code.{questionCodes};
 ghost use Rattle.book_codes.specs.Question.{SomeSound, QuestionSource, QuestionTarget, QuestionBound};
 use books::parts::part_of;
 use codes::SLOTS;
@@ -11,7 +13,7 @@ use spec::QUESTION_GOALS;
 
 // As a source: nine codes and a width for each subgoal. Returns how many there are.
 pub fn question_source(book: &[u8], out: &mut [u64], widths: &mut [u8]) -> usize
-    requires { ⌜ SomeSound (now book) × (108 ≤ length (now out)) × (12 ≤ length (now widths)) ⌝ }
+    requires { ⌜ SomeSound (now book) × (questionCodes ≤ length (now out)) × (questionMost ≤ length (now widths)) ⌝ }
     ensures { λ r. ⌜ QuestionSource (now (book .entry)) (now (out .entry)) (now (out .exit)) (now (widths .entry)) (now (widths .exit)) r ⌝ }
 {
     slot_codes(part_of(book, 1), part_of(book, 0), out, widths)
@@ -19,7 +21,7 @@ pub fn question_source(book: &[u8], out: &mut [u64], widths: &mut [u8]) -> usize
 
 // As a target: nine codes for each subgoal. Returns how many there are.
 pub fn question_target(book: &[u8], out: &mut [u64]) -> usize
-    requires { ⌜ SomeSound (now book) × (108 ≤ length (now out)) ⌝ }
+    requires { ⌜ SomeSound (now book) × (questionCodes ≤ length (now out)) ⌝ }
     ensures { λ r. ⌜ QuestionTarget (now (book .entry)) (now (out .entry)) (now (out .exit)) r ⌝ }
 {
     let mut widths = [0u8; QUESTION_GOALS];

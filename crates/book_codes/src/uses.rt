@@ -1,7 +1,9 @@
 // The uses of a list of rows, one after the other.
 ghost use Prim.Native.Nat.{_+_, _*_, _<_, _≤_};
 ghost use lib.ListN.{length};
-ghost use Rattle.codes.specs.Code.{ownCode, ownSlot};
+ghost use Rattle.spec.specs.Table.{mostRows};
+ghost use Rattle.spec.specs.BookLayout.{questionMost, summaryMost};
+ghost use Rattle.codes.specs.Code.{ownCode, ownSlot, summaryCodes};
 ghost use Rattle.book_codes.specs.RowsGiven.{RowsGiven};
 ghost use Rattle.book_codes.specs.AllUses.{GoalsCounted, AllCodes, AllOwners, AllInsides, AllWidths, AllEnds, AllStarts};
 use crate::marks::count_up;
@@ -21,7 +23,7 @@ pub fn expand(
     own: &mut [u8],
     inner: &mut [u8],
 ) -> usize
-    requires { ⌜ RowsGiven (now book) (now rows) n × (n ≤ 64) × (72 * n ≤ length (now out)) × (8 * n ≤ length (now own)) × (8 * n ≤ length (now inner)) ⌝ }
+    requires { ⌜ RowsGiven (now book) (now rows) n × (n ≤ mostRows) × (summaryCodes * n ≤ length (now out)) × (summaryMost * n ≤ length (now own)) × (summaryMost * n ≤ length (now inner)) ⌝ }
     ensures { λ r. ⌜ GoalsCounted (now (book .entry)) (now (rows .entry)) n r × AllCodes (now (book .entry)) (now (rows .entry)) n ownCode (now (out .entry)) (now (out .exit)) × AllOwners (now (book .entry)) (now (rows .entry)) n (now (own .entry)) (now (own .exit)) × AllInsides (now (book .entry)) (now (rows .entry)) n (now (inner .entry)) (now (inner .exit)) ⌝ }
 {
     let mut at: usize = 0;
@@ -47,7 +49,7 @@ pub fn expand_back(
     widths: &mut [u8],
     lasts: &mut [u8],
 ) -> usize
-    requires { ⌜ RowsGiven (now book) (now rows) n × (n ≤ 12) × (72 * n ≤ length (now out)) × (8 * n ≤ length (now widths)) × (8 * n ≤ length (now lasts)) ⌝ }
+    requires { ⌜ RowsGiven (now book) (now rows) n × (n ≤ questionMost) × (summaryCodes * n ≤ length (now out)) × (summaryMost * n ≤ length (now widths)) × (summaryMost * n ≤ length (now lasts)) ⌝ }
     ensures { λ r. ⌜ GoalsCounted (now (book .entry)) (now (rows .entry)) n r × AllCodes (now (book .entry)) (now (rows .entry)) n ownSlot (now (out .entry)) (now (out .exit)) × AllWidths (now (book .entry)) (now (rows .entry)) n (now (widths .entry)) (now (widths .exit)) × AllEnds (now (book .entry)) (now (rows .entry)) n (now (lasts .entry)) (now (lasts .exit)) ⌝ }
 {
     let mut at: usize = 0;
@@ -65,7 +67,7 @@ pub fn expand_back(
 
 // Where each row's use begins among the subgoals of all, and behind that where the last ends: what lies between two is one row's.
 pub fn use_starts(book: &[u8], rows: &[u64], n: usize, starts: &mut [u16])
-    requires { ⌜ RowsGiven (now book) (now rows) n × (n ≤ 64) × (n + 1 ≤ length (now starts)) ⌝ }
+    requires { ⌜ RowsGiven (now book) (now rows) n × (n ≤ mostRows) × (n + 1 ≤ length (now starts)) ⌝ }
     ensures { λ _. ⌜ AllStarts (now (book .entry)) (now (rows .entry)) n (now (starts .entry)) (now (starts .exit)) ⌝ }
 {
     let mut at: usize = 0;

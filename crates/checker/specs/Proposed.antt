@@ -9,14 +9,14 @@ use Rattle.spec.specs.RuleLayout.{ruleBytes, Layout}
 use Rattle.spec.specs.BookLayout.{SoundBook, questionMost}
 use Rattle.spec.specs.Truth.{RewritingRule}
 use Rattle.spec.specs.Given.{atFront}
-use Rattle.codes.specs.Code.{termCode, codesOf}
+use Rattle.codes.specs.Code.{termCode, codesOf, questionCodes}
 use Rattle.book_codes.specs.Question.{SomeSound}
 use Rattle.checker.specs.Lengths.{HeadsNeeds}
 use Rattle.checker.specs.declared.proposal.Proposal.{Proposal}
 
 -- so many codes for twelve rows, zeros
 abbrev pub empty : List ℕ
-empty = replicate 108 0
+empty = replicate questionCodes 0
 
 abbrev pub noRows : Proposal
 noRows = record { count = 0; codes = empty }

@@ -11,6 +11,7 @@ use Rattle.spec.specs.Summaries.{summary}
 use Rattle.spec.specs.Book.{Book, admittedOf}
 use Rattle.spec.specs.RuleLayout.{Layout}
 use Rattle.spec.specs.BookLayout.{SoundBook, questionMost}
+use Rattle.codes.specs.Code.{subgoalSize}
 
 -- "one whole rule by the layout with 1 to 12 subgoals", where a summary stands for a relation, as wide as its head
 pub record LaidOut (lengths rewriting : List ℕ) (r : Bool) : Type 0 where
@@ -29,4 +30,4 @@ pub record Admits (book : List ℕ) (number : ℕ) (r : Bool) : Type 0 where
 
 -- "over admitted summaries": of so many rows, nine codes each, the first code is such a number
 pub record AdmitsAll (book codes : List ℕ) (count : ℕ) (r : Bool) : Type 0 where
-  pub exactly : (b : Book) → SoundBook book b → (r ≡ true) ↔ ((i : ℕ) → i < count → AdmittedNumber b (getD codes (9 * i) 0))
+  pub exactly : (b : Book) → SoundBook book b → (r ≡ true) ↔ ((i : ℕ) → i < count → AdmittedNumber b (getD codes (subgoalSize * i) 0))

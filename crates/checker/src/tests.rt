@@ -1,6 +1,7 @@
 // What a rewriting is held to: its layout, its head, and that its summaries are admitted.
 ghost use Prim.Native.Nat.{_*_, _≤_};
 ghost use lib.ListN.{length};
+ghost use Rattle.codes.specs.Code.{subgoalSize};
 ghost use Rattle.book_codes.specs.Question.{SomeSound};
 ghost use Rattle.rule_codes.specs.Laid.{Laid};
 ghost use Rattle.checker.specs.Tests.{LaidOut, SameHeads, Admits, AdmitsAll};
@@ -58,7 +59,7 @@ fn admits(book: &[u8], number: usize) -> bool
 
 // Whether each of the first `count` rows is over an admitted summary.
 pub(crate) fn all_admitted(book: &[u8], codes: &[u64], count: usize) -> bool
-    requires { ⌜ SomeSound (now book) × (9 * count ≤ length (now codes)) ⌝ }
+    requires { ⌜ SomeSound (now book) × (subgoalSize * count ≤ length (now codes)) ⌝ }
     ensures { λ r. ⌜ AdmitsAll (now (book .entry)) (now (codes .entry)) count r ⌝ }
 {
     let mut i: usize = 0;

@@ -22,8 +22,10 @@ pub const NONE: u64 = 1;
 // Slots for the variables that all uses share, and behind them for those of the current use.
 pub const SLOTS: usize = 2 * VARIABLES;
 
-// The codes of a question.
+// The codes of a question, and of a summary.
 pub const QUESTION_CODES: usize = SUBGOAL_CODES * QUESTION_GOALS;
+
+pub const SUMMARY_CODES: usize = SUBGOAL_CODES * SUMMARY_GOALS;
 
 // The subgoals of the uses of a rewriting, and their codes.
 pub const USES_GOALS: usize = QUESTION_GOALS * SUMMARY_GOALS;

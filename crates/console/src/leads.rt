@@ -1,20 +1,16 @@
 // The first lines of a listing: the need, and each summary's lead.
 ghost use Prim.Native.Nat.{_≤_};
-use crate::bytes::count_at;
-use crate::bytes::number_at;
+ghost use Rattle.spec.specs.Refusals.{Loads};
+ghost use Rattle.spec.specs.Contents.{count};
 use crate::text::end_line;
 use crate::text::print_after;
 use crate::text::print_text;
 use admission::lead_of;
 use admission::size_of;
+use contents::fields::stamp_at;
+use contents::load;
 use spec::Lead;
-
-// The stamp of an entry: entry 1 is the question, whose stamp is the need.
-fn stamp_of(book: &[u8], entry: usize) -> u32
-    requires { ⌜ entry ≤ 1000 ⌝ }
-{
-    number_at(book, 10 + 12 * entry)
-}
+use spec::Loaded;
 
 fn print_lead(lead: Lead) {
     match lead {
@@ -29,20 +25,22 @@ fn print_lead(lead: Lead) {
     }
 }
 
-// One line: a summary, counted from 1, and its lead or the tie.
+// One line: a summary, counted from 1, and its lead or the tie. The stamp of entry 1, the question, is the need.
 fn print_view(book: &[u8], summary: usize)
-    requires { ⌜ summary ≤ 255 ⌝ }
+    requires { ⌜ Loads (now book) × (summary ≤ count (now book)) ⌝ }
 {
     print_after(b"view ", summary as u64);
-    print_lead(lead_of(stamp_of(book, 1), stamp_of(book, summary + 1)));
+    print_lead(lead_of(stamp_at(book, 1), stamp_at(book, summary + 1)));
     end_line();
 }
 
-// A sound book has at most 64 summaries: its count's first byte says how many.
+// Nothing where the contents do not load.
 pub(crate) fn print_leads(book: &[u8]) {
-    print_after(b"need ", stamp_of(book, 1) as u64);
+    let Loaded::Good(n) = load(book) else {
+        return;
+    };
+    print_after(b"need ", stamp_at(book, 1) as u64);
     end_line();
-    let n = count_at(book, 0);
     let mut i: usize = 0;
     while i < n {
         i += 1;

@@ -41,8 +41,8 @@ module _ (s : Summaries) (l : List (Subgoal (Term ℕ))) where
     of : Subgoal (Term ℕ)
     at : place l (suc by) ≡ some of
 
-  abbrev rowOf : Row → Subgoal (Term ℕ)
-  rowOf h = h .of
+  abbrev hitRow : Row → Subgoal (Term ℕ)
+  hitRow h = h .of
 
   -- What a use's own variables become: those of the first chosen row with its number, uses counted from i.
   abbrev owns : ℕ → List Row → ℕ → ℕ → Term (Own ℕ)
@@ -50,14 +50,14 @@ module _ (s : Summaries) (l : List (Subgoal (Term ℕ))) where
   owns i (h ∷ hs) j x = cond (eqb (h .by) j) (inUse s i (h .of) x) (owns (suc i) hs j x)
 
   abbrev Owned : ℕ → List Row → Row → Type 0
-  Owned i hs h = (n : ℕ) × (place (map rowOf hs) (suc n) ≡ some (h .of)) × ((x : ℕ) → owns i hs (h .by) x ≡ inUse s (n + i) (h .of) x)
+  Owned i hs h = (n : ℕ) × (place (map hitRow hs) (suc n) ≡ some (h .of)) × ((x : ℕ) → owns i hs (h .by) x ≡ inUse s (n + i) (h .of) x)
 
   owned : (i : ℕ) (hs : List Row) (h : Row) → h ∈ hs → Owned i hs h
   owned i [] h m = absurd (List·Memᴰ·not-nil m)
   owned i (b ∷ hs) h m = go (eqb (b .by) (h .by)) refl m (owned (suc i) hs h)
     where
       Step : Bool → Type 0
-      Step t = (n : ℕ) × (place (map rowOf (b ∷ hs)) (suc n) ≡ some (h .of)) × ((x : ℕ) → cond t (inUse s i (b .of) x) (owns (suc i) hs (h .by) x) ≡ inUse s (n + i) (h .of) x)
+      Step t = (n : ℕ) × (place (map hitRow (b ∷ hs)) (suc n) ≡ some (h .of)) × ((x : ℕ) → cond t (inUse s i (b .of) x) (owns (suc i) hs (h .by) x) ≡ inUse s (n + i) (h .of) x)
 
       go : (t : Bool) → eqb (b .by) (h .by) ≡ t → h ∈ (b ∷ hs) → (h ∈ hs → Owned (suc i) hs h) → Step t
       go true e m ih =
@@ -86,7 +86,7 @@ module _ (s : Summaries) (q : Rule ℕ) (l : List (Subgoal (Term ℕ))) (suits :
   hit = chosen Lands (q .body) lands
 
   abbrev rows : List (Subgoal (Term ℕ))
-  rows = map (rowOf s l) (hit .list)
+  rows = map (hitRow s l) (hit .list)
 
   abbrev ξ : Own ℕ → Term (Own ℕ)
   ξ = extended kept (owns s l 0 (hit .list))
@@ -108,8 +108,8 @@ module _ (s : Summaries) (q : Rule ℕ) (l : List (Subgoal (Term ℕ))) (suits :
   pub part : Part s q l
   part = record {
     list = rows;
-    long = length-map (hit .list) (rowOf s l) ∙ hit .long;
-    within = λ g m. let w = Memᴰ·of-map (rowOf s l) (hit .list) m in Memᴰ·cast (sym (w .2)) (place-in l (suc (w .0 .by)) (w .0 .at));
+    long = length-map (hit .list) (hitRow s l) ∙ hit .long;
+    within = λ g m. let w = Memᴰ·of-map (hitRow s l) (hit .list) m in Memᴰ·cast (sym (w .2)) (place-in l (suc (w .0 .by)) (w .0 .at));
     there = record {
       value = λ x. becomes con ξ (there .value x);
       gives = sym (terms-after con (there .value) ξ (q .head)) ∙ ap (map (becomes con ξ)) (there .gives) ∙ terms-after con kept ξ (q .head);

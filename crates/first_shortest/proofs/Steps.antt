@@ -11,6 +11,7 @@ use lib.ListN.{length, take, drop, replicate, set, length-set}
 use lib.Seq.{take-suc-set, drop-set-lt, length-take-le}
 use Rattle.spec.specs.Words.{Rule}
 use Rattle.spec.specs.Summaries.{Summaries}
+use Rattle.spec.specs.BookLayout.{questionMost}
 use Rattle.choice_theory.specs.Numbered.{RowList}
 use Rattle.choice_theory.specs.Can.{Can}
 use Rattle.choice_theory.specs.Going.{AtLeast}
@@ -87,7 +88,7 @@ module _ {t : Task} {b : List ℕ} {n k : ℕ} (c : Cannot t b n k) where
 
 -- k can do
 module _ {t : Task} {b : List ℕ} {n k : ℕ} (f : Fewest t b n k) where
-  pub underway-start : k < 13 → Underway t b n 0 (starting n k)
+  pub underway-start : k ≤ questionMost → Underway t b n 0 (starting n k)
   unfolding starting
   underway-start h = record {
     few = omega arith;
@@ -97,7 +98,7 @@ module _ {t : Task} {b : List ℕ} {n k : ℕ} (f : Fewest t b n k) where
   }
 
   -- 12 cannot do
-  pub chooses-none : 13 ≤ k → ChoiceSays t b n nothing
+  pub chooses-none : questionMost < k → ChoiceSays t b n nothing
   unfolding nothing
   chooses-none h = record {
     by = λ s q rows p. record {

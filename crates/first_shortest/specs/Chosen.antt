@@ -7,6 +7,7 @@ use lib.ListN.{length, take, drop, replicate}
 use Rattle.spec.specs.Words.{_∈_, Rule}
 use Rattle.spec.specs.Summaries.{Summaries}
 use Rattle.spec.specs.Answer.{Rewrites, Answer}
+use Rattle.spec.specs.BookLayout.{questionMost}
 use Rattle.choice_theory.specs.Numbered.{RowList, rowsAt}
 use Rattle.task.specs.Task.{Task}
 use Rattle.first_shortest.specs.Posed.{PosedBy}
@@ -18,17 +19,17 @@ numbersOf r = take (r .k) (r .rows)
 
 -- "The answer is the first of the shortest equivalent lists of distinct summary rows": it has k rows, and their numbers stand first.
 pub record Found (s : Summaries) (q : Rule ℕ) (rows : RowList) (r : Chosen) : Type 0 where
-  pub few : r .k ≤ 12
+  pub few : r .k ≤ questionMost
   pub count : length (numbersOf r) ≡ r .k
   pub within : (u : ℕ) → u ∈ numbersOf r → u < length rows
   pub answer : Answer s q (rowsAt rows (numbersOf r))
-  pub rest : drop (r .k) (r .rows) ≡ replicate (12 - r .k) 0
+  pub rest : drop (r .k) (r .rows) ≡ replicate (questionMost - r .k) 0
 
 -- "no equivalent list exists", and then the rows say nothing
 pub record NotFound (s : Summaries) (q : Rule ℕ) (r : Chosen) : Type 0 where
   pub none : (l : RowList) → Rewrites s q l → ⊥
   pub count : r .k ≡ 0
-  pub rest : r .rows ≡ replicate 12 0
+  pub rest : r .rows ≡ replicate questionMost 0
 
 pub record ChosenBy (s : Summaries) (q : Rule ℕ) (rows : RowList) (r : Chosen) : Type 0 where
   pub found : r .ok ≡ true → Found s q rows r

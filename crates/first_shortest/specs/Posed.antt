@@ -7,6 +7,7 @@ use Rattle.spec.specs.Words.{Rule}
 use Rattle.spec.specs.Summaries.{Summaries, SummaryRow, uses}
 use Rattle.spec.specs.Order.{RowBefore}
 use Rattle.spec.proofs.Lists.Enumerate.{Enumerates}
+use Rattle.spec.specs.Table.{mostRows}
 use Rattle.choice_theory.specs.Numbered.{RowList}
 use Rattle.choice_theory.specs.Placed.{owners}
 use Rattle.outcomes.specs.Bounds.{Bounds, RowsWithin}
@@ -22,7 +23,7 @@ pub record PosedBy (s : Summaries) (q : Rule ℕ) (rows : RowList) (t : Task) (b
   pub all : Enumerates (SummaryRow s q) RowBefore rows
   pub within : RowsWithin s rows
   pub count : length rows ≡ n
-  pub few : n ≤ 64
+  pub few : n ≤ mostRows
   pub codes : t ≡ thereTask s q rows (t .lasts) (owners 0 (uses s 0 rows))
   pub marked : length (t .lasts) ≡ length (q .body)
   pub head : HeadBound (q .head) b

@@ -8,6 +8,7 @@ use lib.Bits.{bitOr}
 use lib.ListN.{length, getD}
 use Rattle.spec.specs.Words.{Rule}
 use Rattle.spec.specs.Summaries.{Summaries, inPlace}
+use Rattle.spec.specs.Table.{mostRows}
 use Rattle.choice_theory.specs.Numbered.{RowList, rowAt}
 use Rattle.choice_theory.specs.Can.{CanBy}
 use Rattle.choice_theory.specs.Dominates.{Dominates}
@@ -49,7 +50,7 @@ pub record UsesBy (s : Summaries) (rows : RowList) (d r : ℕ) (t : Task) : Type
   pub codes : t ≡ useTask s r (rowAt rows r) d (rowAt rows d) (t .lasts) (t .own)
   pub marked : length (t .lasts) ≡ length (inPlace s r (rowAt rows r))
   pub owned : length (t .own) ≡ length (inPlace s d (rowAt rows d))
-  pub sets : (k : ℕ) → getD (t .own) k 0 < 64
+  pub sets : (k : ℕ) → getD (t .own) k 0 < mostRows
 
 pub record DominanceNeeds (t : Task) : Type 0 where
   pub summaries : Summaries

@@ -1,5 +1,6 @@
 // Whether rows can do, by the search over them less those that others dominate: wherever such a row serves, the other does. And whether a row dominates another.
 ghost use Prim.Native.Nat.{_<_, _≤_};
+ghost use Rattle.spec.specs.Table.{mostRows};
 ghost use Rattle.task.specs.Task.{posed};
 ghost use Rattle.placing.specs.FirstPlaces.{Enough};
 ghost use Rattle.first_shortest.specs.Pruning.{Spared, Pruned, FeasibilityNeeds, DominanceNeeds, DominanceSays};
@@ -8,7 +9,7 @@ use spec::MOST_ROWS;
 
 // Without the row, if another that is used or may be dominates it; `over` has the rows that do.
 fn spared(used: u64, may: u64, over: u64, row: usize) -> u64
-    requires { ⌜ row < 64 ⌝ }
+    requires { ⌜ row < mostRows ⌝ }
     ensures { λ r. ⌜ Spared used may over row r ⌝ }
 {
     let others = bits::remove(over, row as u32);
@@ -21,7 +22,7 @@ fn spared(used: u64, may: u64, over: u64, row: usize) -> u64
 
 // The rows that may be taken, less those that others dominate. One row is dropped at a time: of two that dominate each other one stays.
 fn pruned(dom: &[u64; MOST_ROWS], n: usize, used: u64, may: u64) -> u64
-    requires { ⌜ n ≤ 64 ⌝ }
+    requires { ⌜ n ≤ mostRows ⌝ }
     ensures { λ r. ⌜ Pruned (now (dom .entry)) n used may r ⌝ }
 {
     let mut kept = may;

@@ -1,6 +1,8 @@
 // The choice of rows: how few can do, then a pass over the rows in their order that takes each row with which the later ones can still do.
 ghost use mathlib.Core.Path.{_≡_};
 ghost use Prim.Native.Nat.{_+_, _<_, _≤_};
+ghost use Rattle.spec.specs.BookLayout.{questionMost};
+ghost use Rattle.spec.specs.Table.{mostRows};
 ghost use Rattle.task.specs.Task.{posed};
 ghost use Rattle.first_shortest.specs.Pruning.{FeasibilityNeeds};
 ghost use Rattle.first_shortest.specs.Chosen.{ChoiceSays};
@@ -54,7 +56,7 @@ fn some(p: Pass) -> Chosen
 
 // Before the first row none is taken, and all may be.
 fn start(n: usize, k: usize) -> Pass
-    requires { ⌜ n ≤ 64 ⌝ }
+    requires { ⌜ n ≤ mostRows ⌝ }
     ensures { λ r. ⌜ r ≡ starting n k ⌝ }
 {
     Pass {
@@ -67,8 +69,8 @@ fn start(n: usize, k: usize) -> Pass
 }
 
 fn taken(p: Pass, row: usize) -> Pass
-    requires { ⌜ row < 64 ⌝ }
-    requires { ⌜ p .k < 12 ⌝ }
+    requires { ⌜ row < mostRows ⌝ }
+    requires { ⌜ p .k < questionMost ⌝ }
     requires { ⌜ 0 < p .left ⌝ }
     ensures { λ r. ⌜ r ≡ taking p row ⌝ }
 {
@@ -85,7 +87,7 @@ fn taken(p: Pass, row: usize) -> Pass
 }
 
 fn passed(p: Pass, row: usize) -> Pass
-    requires { ⌜ row < 64 ⌝ }
+    requires { ⌜ row < mostRows ⌝ }
     ensures { λ r. ⌜ r ≡ passing p row ⌝ }
 {
     let rows = p.rows;
@@ -153,7 +155,7 @@ fn one_row(
 ) -> Pass
     requires { ⌜ FeasibilityNeeds (posed (now source) (now widths) (now lasts) (now target) (now own)) b n (now dom) ⌝ }
     requires { ⌜ row < n ⌝ }
-    requires { ⌜ p .k < 12 ⌝ }
+    requires { ⌜ p .k < questionMost ⌝ }
     requires { ⌜ 0 < p .left ⌝ }
     ensures { λ r. ⌜ Tried (posed (now (source .entry)) (now (widths .entry)) (now (lasts .entry)) (now (target .entry)) (now (own .entry))) b row p r ⌝ }
 {
@@ -192,7 +194,7 @@ fn first_rows(
 ) -> Chosen
     requires { ⌜ FeasibilityNeeds (posed (now source) (now widths) (now lasts) (now target) (now own)) b n (now dom) ⌝ }
     requires { ⌜ Fewest (posed (now source) (now widths) (now lasts) (now target) (now own)) b n k ⌝ }
-    requires { ⌜ k < 13 ⌝ }
+    requires { ⌜ k ≤ questionMost ⌝ }
     ensures { λ r. ⌜ ChoiceSays (posed (now (source .entry)) (now (widths .entry)) (now (lasts .entry)) (now (target .entry)) (now (own .entry))) b n r ⌝ }
 {
     let mut p = start(n, k);

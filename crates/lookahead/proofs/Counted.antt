@@ -10,7 +10,7 @@ use native.Mathlib.Nat.{mul-le-mul-left}
 use lib.ListN.{getD, replicate, getD-replicate}
 use lib.Bits.{bitOr}
 use Rattle.bits.specs.Sets.{Has, Meets}
-use Rattle.bits.proofs.Laws.{has-none, or-left, or-right, or-cases, same-members}
+use Rattle.bits.proofs.Laws.{has-none, or-either, or-cases, same-members}
 use Rattle.task.specs.Task.{Task, Sized, goals, targets, rowOf}
 use Rattle.lookahead.specs.declared.reasons.Rows.{Rows}
 use Rattle.lookahead.specs.Outlook.{SameUse, UseEnd, HasTarget, Offers, SlotOf, SlotsOf, memberOf, noWants, Wanting, Most, fairly, vainly}
@@ -42,11 +42,8 @@ module _ (p : Task) (at : ℕ) (b : List ℕ) (rows : Rows) where
     pub hope : (with ≡ 0 → ⊥) → NoRowFor p at b rows i → ⊥
     hope n s = n (same-members with 0 (λ x. (λ h. absurd (s .never x (open-row x h) (f .only x h .1)), λ h. absurd (has-none x h))))
 
-    either : (x : ℕ) → Has (rows .used) x ⊎ Has (rows .may) x → Has (bitOr (rows .used) (rows .may)) x
-    either x = ⊎-elim (or-left (rows .used) (rows .may) x) (or-right (rows .used) (rows .may) x)
-
     offered : ((x : ℕ) → Has with x → Has (rows .used) x → ⊥) → (x : ℕ) → Has (rows .used) x ⊎ Has (rows .may) x → HasTarget p b i x → Has with x
-    offered m x o t = subst (Has with) (t .row) (f .each m (t .k) (t .within) (rw (t .row) (either x o)) (t .fits))
+    offered m x o t = subst (Has with) (t .row) (f .each m (t .k) (t .within) (rw (t .row) (or-either (rows .used) (rows .may) x o)) (t .fits))
 
     pub despair : SameUse (p .lasts) at i → with ≡ 0 → NoRowFor p at b rows i
     despair u e = record { same = u; never = λ x o t. has-none x (subst (λ s. Has s x) e (offered (λ y h. absurd (has-none y (subst (λ s. Has s y) e h))) x o t)) }

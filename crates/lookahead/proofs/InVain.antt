@@ -11,7 +11,7 @@ use lib.ListN.{length, getD, replicate, getD-replicate, length-replicate, List·
 use lib.Bits.{bitOr}
 use Rattle.spec.specs.Words.{_∈_}
 use Rattle.bits.specs.Sets.{Has, Meets}
-use Rattle.bits.proofs.Laws.{has-none, or-left, or-right}
+use Rattle.bits.proofs.Laws.{has-none, or-either}
 use Rattle.task.specs.Task.{Task, posed, Sized, goals, targets, sourceTerm, widthOf, lastOf, rowOf, valueOf, Agrees, Completes, done, put}
 use Rattle.task.specs.Mapped.{InRows}
 use Rattle.task.specs.Terms.{stood}
@@ -128,10 +128,6 @@ module _ (p : Task) (z : Sized p) (at end : ℕ) (u : UseEnd (p .lasts) at end) 
       let d = rw e at (landing p (goals p - at) at (i - at) v l (omega (arith, there p z at end u i h j)) (λ y m n. u .exactly i .0 (h, j) .one y m (omega arith)) c) in
       record { k = d .k; inside = d .inside; within = d .within; fits = suits p b i (d .k) slots v on (λ a k l. s .exactly _ .1 (inr (record { a = a; counts = k; is = refl; slot = l }))) (d .agrees) }
 
-  either : (x : ℕ) → Has (rows .used) x ⊎ Has (rows .may) x → Has (bitOr (rows .used) (rows .may)) x
-  either x (inl m) = or-left (rows .used) (rows .may) x m
-  either x (inr m) = or-right (rows .used) (rows .may) x m
-
   -- no row has a target for it
   pub vain-none : (i : ℕ) → at ≤ i → i < end → (slots : ℕ) → SlotsOf p i 0 slots → Offers p b (rows .used) (bitOr (rows .used) (rows .may)) i 0 → Failed p at b rows record { slots = slots; short = false }
   vain-none i h j slots s f = record { never = never }
@@ -139,7 +135,7 @@ module _ (p : Task) (z : Sized p) (at end : ℕ) (u : UseEnd (p .lasts) at end) 
       never : (v : ℕ → ℕ) (l : List ℕ) → AgreesOn b slots v → Completes p (goals p - at) at v l → Open p (rows .used) (rows .may) l → (false ≡ true → Affords p (rows .used) (rows .may) (rows .left) l) → ⊥
       never v l on c o d =
           let k = sent i h j 0 slots s v l on c in
-          has-none (rowOf p (k .k)) (f .each (λ x m. absurd (has-none x m)) (k .k) (k .within) (either (rowOf p (k .k)) (o (k .k) (k .inside))) (k .fits))
+          has-none (rowOf p (k .k)) (f .each (λ x m. absurd (has-none x m)) (k .k) (k .within) (or-either (rows .used) (rows .may) (rowOf p (k .k)) (o (k .k) (k .inside))) (k .fits))
 
   pub wanted-steady : (w : Wants) (i : ℕ) → at ≤ i → i < end → Wanted p at b rows w i → Steady w
   wanted-steady w i g h q = record { few = omega (arith, q .few, there p z at end u i g h, z .few); long = q .long; below = q .below }
@@ -162,7 +158,7 @@ module _ (p : Task) (z : Sized p) (at end : ℕ) (u : UseEnd (p .lasts) at end) 
         go k (r .each (k .k) (k .inside))
       where
         member : (k : Sent i l) → Has (rows .used) (rowOf p (k .k)) ⊎ Has (rows .may) (rowOf p (k .k)) → Has with (rowOf p (k .k))
-        member k y = f .each (m .exactly .0 refl) (k .k) (k .within) (either (rowOf p (k .k)) y) (k .fits)
+        member k y = f .each (m .exactly .0 refl) (k .k) (k .within) (or-either (rows .used) (rows .may) (rowOf p (k .k)) y) (k .fits)
 
         go : (k : Sent i l) → Has (rows .used) (rowOf p (k .k)) ⊎ (rowOf p (k .k) ∈ r .taken) → total (w .served) (r .taken) < total (more .served) (r .taken)
         go k (inl y) = absurd (m .exactly .0 refl (rowOf p (k .k)) (member k (inl y)) y)

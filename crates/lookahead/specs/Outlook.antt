@@ -6,6 +6,9 @@ use mathlib.Core.Logic.{_⊎_, _↔_}
 use mathlib.Core.List.{List}
 use Prim.Native.Nat.{ℕ, suc, _+_, _*_, _/_, _%_, _^_, _<_, _≤_}
 use lib.ListN.{length, getD, replicate}
+use Rattle.spec.specs.BookLayout.{mostArity}
+use Rattle.spec.specs.Table.{mostRows}
+use Rattle.codes.specs.Code.{subgoalSize, usesGoals}
 use Rattle.bits.specs.Sets.{Has}
 use Rattle.task.specs.Task.{Task, goals, targets, sourceRelation, sourceTerm, targetRelation, targetTerm, widthOf, rowOf}
 use Rattle.task.specs.Terms.{stood}
@@ -38,11 +41,11 @@ pub record SuitsTarget (p : Task) (b : List ℕ) (i k : ℕ) : Type 0 where
 -- What is to hold where the source subgoal i is compared: it is there, and so are the codes of all targets.
 pub record Readable (p : Task) (i : ℕ) : Type 0 where
   pub there : i < goals p
-  pub narrow : widthOf p i ≤ 8
-  pub source : 9 * i + 8 < length (p .source)
-  pub target : length (p .target) ≡ 9 * targets p
+  pub narrow : widthOf p i ≤ mostArity
+  pub source : subgoalSize * i + mostArity < length (p .source)
+  pub target : length (p .target) ≡ subgoalSize * targets p
   pub many : targets p ≤ 512
-  pub rows : (k : ℕ) → rowOf p k < 64
+  pub rows : (k : ℕ) → rowOf p k < mostRows
 
 pub record Offered (p : Task) (b : List ℕ) (allowed i k : ℕ) (answer : Bool) : Type 0 where
   pub exactly : (answer ≡ true) ↔ (Has allowed (rowOf p k) × SuitsTarget p b i k)
@@ -64,7 +67,7 @@ pub record SlotOf (p : Task) (i x : ℕ) : Type 0 where
   pub a : ℕ
   pub counts : a < widthOf p i
   pub is : sourceTerm p i a ≡ x
-  pub slot : x < 64
+  pub slot : x < mostRows
 
 pub record SlotsOf (p : Task) (i set slots : ℕ) : Type 0 where
   pub exactly : (x : ℕ) → Has slots x ↔ (Has set x ⊎ SlotOf p i x)
@@ -73,24 +76,24 @@ unfoldable pub memberOf : ℕ → ℕ → ℕ
 memberOf set x = set / 2 ^ x % 2
 
 abbrev pub noWants : Wants
-noWants = record { many = 0; served = replicate 64 0; slots = 0 }
+noWants = record { many = 0; served = replicate mostRows 0; slots = 0 }
 
 -- there are few, and none serves more
 pub record Steady (w : Wants) : Type 0 where
-  pub few : w .many < 96
-  pub long : length (w .served) ≡ 64
+  pub few : w .many < usesGoals
+  pub long : length (w .served) ≡ mostRows
   pub below : (x : ℕ) → getD (w .served) x 0 ≤ w .many
 
 pub record Wanting (w : Wants) (rows set : ℕ) (more : Wants) : Type 0 where
   pub many : more .many ≡ suc (w .many)
-  pub long : length (more .served) ≡ 64
-  pub served : (x : ℕ) → x < 64 → getD (more .served) x 0 ≡ getD (w .served) x 0 + memberOf rows x
+  pub long : length (more .served) ≡ mostRows
+  pub served : (x : ℕ) → x < mostRows → getD (more .served) x 0 ≡ getD (w .served) x 0 + memberOf rows x
   pub slots : more .slots ≡ set
 
 -- m is the largest of the 64
 pub record Most (l : List ℕ) (m : ℕ) : Type 0 where
-  pub each : (x : ℕ) → x < 64 → getD l x 0 ≤ m
-  pub one : (x : ℕ) × (x < 64) × (getD l x 0 ≡ m)
+  pub each : (x : ℕ) → x < mostRows → getD l x 0 ≤ m
+  pub one : (x : ℕ) × (x < mostRows) × (getD l x 0 ≡ m)
 
 abbrev pub fairly : Outlook
 fairly = record { vain = false; why = noReasons }

@@ -4,6 +4,7 @@ use mathlib.Core.Path.{_≡_}
 use mathlib.Core.Logic.{_⊎_, _↔_}
 use mathlib.Core.List.{List}
 use Prim.Native.Nat.{ℕ, suc, _*_, _<_}
+use Rattle.spec.specs.Table.{mostRows}
 use Rattle.bits.specs.Sets.{Has}
 use Rattle.task.specs.Task.{Task, goals}
 use Rattle.lookahead.specs.declared.reasons.Rows.{Rows}
@@ -37,7 +38,7 @@ pub record ServedBy (p : Task) (at : ℕ) (b : List ℕ) (rows : Rows) (x i : �
 pub record TooManyWant (p : Task) (at : ℕ) (b : List ℕ) (rows : Rows) : Type 0 where
   pub many : ℕ
   pub want : CountBelow (WantsRow p at b rows) (goals p) many
-  pub each : (x n : ℕ) → x < 64 → CountBelow (ServedBy p at b rows x) (goals p) n → rows .left * n < many
+  pub each : (x n : ℕ) → x < mostRows → CountBelow (ServedBy p at b rows x) (goals p) n → rows .left * n < many
 
 -- x is a slot of a source subgoal that wants a row
 pub record WantedSlot (p : Task) (at : ℕ) (b : List ℕ) (rows : Rows) (x : ℕ) : Type 0 where

@@ -6,6 +6,8 @@ ghost use mathlib.Core.Logic.{_↔_};
 ghost use mathlib.Core.List.{[]};
 ghost use Prim.Native.Nat.{_*_, _<_, _≤_, max};
 ghost use lib.ListN.{length};
+ghost use Rattle.spec.specs.Table.{mostRows};
+ghost use Rattle.codes.specs.Code.{usesGoals};
 ghost use Rattle.task.specs.Task.{posed, Sized};
 ghost use Rattle.lookahead.specs.Outlook.{UseEnd, Clashes, Readable, Offered, Offers, SlotsOf, Steady, Wanting, Most, fairly, vainly, noWants, memberOf};
 ghost use Rattle.lookahead.specs.Seen.{LookSays};
@@ -165,7 +167,7 @@ fn slots_of(source: &[u64], widths: &[u8], i: usize, set: u64) -> u64
 
 // 1 of a member of the set, 0 of another number.
 fn member(set: u64, x: usize) -> u64
-    requires { ⌜ x < 64 ⌝ }
+    requires { ⌜ x < mostRows ⌝ }
     ensures { λ r. ⌜ r ≡ memberOf set x ⌝ }
 {
     (set >> x) % 2
@@ -209,8 +211,8 @@ fn most(served: &[u64; MOST_ROWS]) -> u64
 
 // Whether so many are more than the rows left can have targets for, where each has at most so many.
 fn beyond(many: u64, left: usize, each: u64) -> bool
-    requires { ⌜ many ≤ 96 ⌝ }
-    requires { ⌜ each ≤ 96 ⌝ }
+    requires { ⌜ many ≤ usesGoals ⌝ }
+    requires { ⌜ each ≤ usesGoals ⌝ }
     ensures { λ r. ⌜ (r ≡ true) ↔ (left * each < many) ⌝ }
 {
     if left < USES_GOALS {

@@ -1,6 +1,7 @@
 // Rows that are entered, and the reasons of a failure.
 ghost use mathlib.Core.Path.{_≡_};
 ghost use Prim.Native.Nat.{_<_};
+ghost use Rattle.spec.specs.Table.{mostRows};
 ghost use Rattle.lookahead.specs.Steps.{blaming, shorting, joining, seeing, rowsOf, entryOf, Entering, Settled, noReasons};
 use task::terms::noted;
 
@@ -44,7 +45,7 @@ pub fn entry(allowed: bool, afforded: bool, free: bool, rows: Rows) -> Entered
 
 // A row in use is free; another costs one of those left, and is then in use.
 pub fn enters(rows: Rows, row: u8) -> Entered
-    requires { ⌜ row < 64 ⌝ }
+    requires { ⌜ row < mostRows ⌝ }
     ensures { λ e. ⌜ Entering rows row e ⌝ }
 {
     let used = bits::add(rows.used, row as u32);

@@ -75,11 +75,9 @@ module _ {book : List ℕ} {answer witness : ℕ} (g : Given book answer witness
   few-rows = omega (arith, given-few g, g .sound .value .question .within .few)
 
   pub answer-fits : length (answerBytes (g .value .question) (g .result)) ≤ answerRoom
-  unfolding answerRoom
   answer-fits = rule-most (rewriting (g .value .question) rows) 12 (g .sound .value .question .within .short) few-rows row-small
 
   pub witness-fits : length (witnessBytes (g .result)) ≤ witnessRoom
-  unfolding witnessRoom
   witness-fits =
       let s = admittedOf (g .value) in
       let q = g .value .question in

@@ -6,13 +6,14 @@ use mathlib.Core.List.{List, [], _++_}
 use Prim.Native.Nat.{ℕ, _+_, _-_, _<_}
 use lib.ListN.{length, replicate}
 use Rattle.spec.specs.Order.{ListBefore, First}
+use Rattle.codes.specs.Code.{usesGoals}
 use Rattle.task.specs.Task.{Task}
 use Rattle.task.specs.Mapped.{Feasible, Mapped}
 use Rattle.placing.specs.declared.Places.{Places}
 
 -- the places l in an array, from at on; the other places are 0
 abbrev pub laid : ℕ → List ℕ → List ℕ
-laid at l = replicate at 0 ++ (l ++ replicate (96 - at - length l) 0)
+laid at l = replicate at 0 ++ (l ++ replicate (usesGoals - at - length l) 0)
 
 -- The first of the lists that are ok, as places from `at` on; or that there is none, and then the places say nothing.
 pub record FirstOf (Ok : List ℕ → Type 0) (at : ℕ) (r : Places) : Type 0 where

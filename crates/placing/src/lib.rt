@@ -3,6 +3,7 @@
 ghost use mathlib.Core.Path.{_≡_};
 ghost use Prim.Native.Nat.{_<_, _≤_};
 ghost use lib.ListN.{length};
+ghost use Rattle.codes.specs.Code.{rowsGoals, mostSlots, usesGoals};
 ghost use Rattle.task.specs.Task.{posed, Sized};
 ghost use Rattle.placing.specs.FirstPlaces.{FirstPlaces, Enough};
 ghost use Rattle.placing.specs.SearchAnswer.{SearchSays, PlacesFrom};
@@ -40,8 +41,8 @@ struct Placed {
 
 // What was answered below, with the place k of the subgoal `at` before it.
 fn carried(below: Placed, at: usize, k: usize, last: u8) -> Placed
-    requires { ⌜ at < 96 ⌝ }
-    requires { ⌜ k < 512 ⌝ }
+    requires { ⌜ at < usesGoals ⌝ }
+    requires { ⌜ k < rowsGoals ⌝ }
     ensures { λ r. ⌜ r ≡ carrying below at k last ⌝ }
 {
     let mut ks = below.ks;
@@ -89,7 +90,7 @@ fn place(
 ) -> Placed
     requires { ⌜ Sized (posed (now source) (now widths) (now lasts) (now target) (now own)) ⌝ }
     requires { ⌜ at ≤ length (now widths) ⌝ }
-    requires { ⌜ length (now b) ≡ 64 ⌝ }
+    requires { ⌜ length (now b) ≡ mostSlots ⌝ }
     ensures { λ r. ⌜ SearchSays (posed (now (source .entry)) (now (widths .entry)) (now (lasts .entry)) (now (target .entry)) (now (own .entry))) at (now (b .entry)) rows r ⌝ }
 {
     if widths.len() <= at {

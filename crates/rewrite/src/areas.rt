@@ -51,5 +51,5 @@ pub(crate) fn print_areas(book: &[u8]) {
     print_with(book, ANSWER_ROOM, WITNESS_ROOM);
     print_with(book, ANSWER_ROOM - 1, WITNESS_ROOM);
     print_with(book, ANSWER_ROOM, WITNESS_ROOM - 1);
-    print_with(book, 533, 119);
+    print_with(book, ANSWER_ROOM - 1, WITNESS_ROOM - 1);
 }

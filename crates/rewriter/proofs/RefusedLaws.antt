@@ -35,19 +35,16 @@ turned-down r = record { refused = r; answer-stays = refl; witness-stays = refl 
 pub turned-down-by : {book a w : List ℕ} {k : ℕ} {r : Reason} → r ≡ ofBook k → RewriterRefusal book (length a) (length w) (ofBook k) → TurnedDown book a a w w r
 turned-down-by {book} {a} {w} e f = turned-down (subst (RewriterRefusal book (length a) (length w)) (sym e) f)
 
-pub answer-short : {book : List ℕ} {answer witness : ℕ} → answer < 534 → RewriterRefusal book answer witness (ofBook 1)
-unfolding answerRoom
+pub answer-short : {book : List ℕ} {answer witness : ℕ} → answer < answerRoom → RewriterRefusal book answer witness (ofBook 1)
 answer-short h = one (inl h)
 
-pub witness-short : {book : List ℕ} {answer witness : ℕ} → witness < 120 → RewriterRefusal book answer witness (ofBook 1)
-unfolding witnessRoom
+pub witness-short : {book : List ℕ} {answer witness : ℕ} → witness < witnessRoom → RewriterRefusal book answer witness (ofBook 1)
 witness-short h = one (inr h)
 
-pub roomy : {answer witness : ℕ} → 534 ≤ answer → 120 ≤ witness → Fault1 answer witness → ⊥
-unfolding answerRoom witnessRoom
+pub roomy : {answer witness : ℕ} → answerRoom ≤ answer → witnessRoom ≤ witness → Fault1 answer witness → ⊥
 roomy a w f = ⊎-elim (λ h. omega arith) (λ h. omega arith) f
 
-pub not-read : {book : List ℕ} {answer witness : ℕ} {r : Reason} → 534 ≤ answer → 120 ≤ witness → Refusal book r → RewriterRefusal book answer witness r
+pub not-read : {book : List ℕ} {answer witness : ℕ} {r : Reason} → answerRoom ≤ answer → witnessRoom ≤ witness → Refusal book r → RewriterRefusal book answer witness r
 not-read a w r = read (roomy a w) r
 
 module _ {book : List ℕ} {answer witness : ℕ} (s : SoundNeeds book answer witness) where

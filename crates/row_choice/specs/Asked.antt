@@ -6,6 +6,7 @@ use lib.ListN.{length}
 use Rattle.spec.specs.Book.{Book, admittedOf}
 use Rattle.spec.specs.BookLayout.{SoundBook}
 use Rattle.spec.proofs.Decided.Rows.{allRows}
+use Rattle.spec.specs.Table.{mostRows}
 use Rattle.codes.specs.Code.{termCode, codesOf}
 use Rattle.first_shortest.specs.Chosen.{ChosenBy}
 use Rattle.first_shortest.specs.declared.Chosen.{Chosen}
@@ -14,7 +15,7 @@ use Rattle.first_shortest.specs.declared.Chosen.{Chosen}
 pub record ChoiceNeedsOf (book rows : List ℕ) (n : ℕ) (b : Book) : Type 0 where
   pub sound : SoundBook book b
   pub count : n ≡ length (allRows (admittedOf b) (b .question))
-  pub few : n ≤ 64
+  pub few : n ≤ mostRows
   pub rest : List ℕ
   pub codes : rows ≡ codesOf termCode (allRows (admittedOf b) (b .question)) ++ rest
 

@@ -8,10 +8,11 @@ use lib.ListN.{length, getD, take}
 use Rattle.spec.specs.Words.{Rule}
 use Rattle.spec.specs.Summaries.{Summaries, inPlace, uses, joined}
 use Rattle.spec.specs.Book.{Book, admittedOf}
+use Rattle.spec.specs.Table.{mostRows}
 use Rattle.choice_theory.specs.Numbered.{RowList, rowAt}
 use Rattle.choice_theory.specs.Dominates.{Dominates}
 use Rattle.outcomes.specs.Bounds.{Bounds, RowsWithin}
-use Rattle.codes.specs.Code.{ownCode, keptSlot, codesOf, widthsOf}
+use Rattle.codes.specs.Code.{ownCode, keptSlot, codesOf, widthsOf, subgoalSize}
 use Rattle.book_codes.specs.RowsGiven.{RowsOf}
 use Rattle.book_codes.specs.Insides.{starts}
 use Rattle.bits.specs.Sets.{Has}
@@ -54,7 +55,7 @@ pub record PairNeeds (source widths target : List ℕ) : Type 0 where
 
 -- Where the answer is no, none of the target's subgoals is of that relation.
 pub record NoRelation (target : List ℕ) (relation : ℕ) (answer : Bool) : Type 0 where
-  pub none : answer ≡ false → (k : ℕ) → k < length target / 9 → getD target (9 * k) 0 ≡ relation → ⊥
+  pub none : answer ≡ false → (k : ℕ) → k < length target / subgoalSize → getD target (subgoalSize * k) 0 ≡ relation → ⊥
 
 pub record PairSays (source widths target : List ℕ) (answer : Bool) : Type 0 where
   pub exactly : (s : Summaries) (rows : RowList) (d r : ℕ) → Pair s rows d r source widths target → (answer ≡ true) ↔ Dominates s rows d r
@@ -63,7 +64,7 @@ pub record PairSays (source widths target : List ℕ) (answer : Bool) : Type 0 w
 pub record Against (s : Summaries) (rows : RowList) (r : ℕ) (source widths target begins : List ℕ) (n : ℕ) : Type 0 where
   pub sound : SoundRows s rows
   pub count : length rows ≡ n
-  pub few : n ≤ 64
+  pub few : n ≤ mostRows
   pub under : RowUseCodes s rows r source widths
   pub all : AllUses s rows target begins
 

@@ -1,9 +1,11 @@
 // Which rows dominate a row of a sound book: the set of those in whose use its own use can be found.
 ghost use Prim.Native.Nat.{_<_, _≤_};
+ghost use Rattle.spec.specs.Table.{mostRows};
 ghost use Rattle.book_codes.specs.RowsGiven.{RowsGiven};
 ghost use Rattle.row_choice.specs.Dominators.{NoRelation, PairNeeds, PairSays, AgainstNeeds, AgainstSays, RowsAsTargets, DominatorsOf};
 use book_codes::one_use::kept_use;
 use codes::SUBGOAL_CODES;
+use codes::SUMMARY_CODES;
 use first_shortest::feasibility::dominates;
 use spec::MOST_ROWS;
 use spec::SUMMARY_GOALS;
@@ -72,10 +74,10 @@ pub fn dominators(
     target: &[u64],
     starts: &[u16; MOST_ROWS + 1],
 ) -> u64
-    requires { ⌜ RowsGiven (now book) (now rows) n × (n ≤ 64) × (r < n) × RowsAsTargets (now book) (now rows) n (now target) (now starts) ⌝ }
+    requires { ⌜ RowsGiven (now book) (now rows) n × (n ≤ mostRows) × (r < n) × RowsAsTargets (now book) (now rows) n (now target) (now starts) ⌝ }
     ensures { λ s. ⌜ DominatorsOf (now (book .entry)) (now (rows .entry)) n r s ⌝ }
 {
-    let mut source = [0u64; 72];
+    let mut source = [0u64; SUMMARY_CODES];
     let mut widths = [0u8; SUMMARY_GOALS];
     let row = SUBGOAL_CODES * r;
     let goals = kept_use(book, &rows[row..], &mut source, &mut widths);

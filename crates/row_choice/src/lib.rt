@@ -1,5 +1,6 @@
 // The task of choosing rows, posed for a sound book's question over all its summary rows.
 ghost use Prim.Native.Nat.{_≤_};
+ghost use Rattle.spec.specs.Table.{mostRows};
 ghost use Rattle.book_codes.specs.RowsGiven.{RowsGiven};
 ghost use Rattle.row_choice.specs.Asked.{ChoiceNeeds, RowChoiceSays};
 ghost use Rattle.row_choice.specs.Targets.{Targets, Owners};
@@ -23,7 +24,7 @@ use spec::QUESTION_GOALS;
 
 // Of each row the set of rows that dominate it.
 fn dominance(book: &[u8], rows: &[u64], n: usize, target: &[u64]) -> [u64; MOST_ROWS]
-    requires { ⌜ RowsGiven (now book) (now rows) n × (n ≤ 64) × Targets (now book) (now rows) n (now target) ⌝ }
+    requires { ⌜ RowsGiven (now book) (now rows) n × (n ≤ mostRows) × Targets (now book) (now rows) n (now target) ⌝ }
     ensures { λ r. ⌜ Dominance (now (book .entry)) (now (rows .entry)) n r ⌝ }
 {
     let mut starts = [0u16; MOST_ROWS + 1];

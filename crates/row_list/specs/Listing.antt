@@ -9,7 +9,7 @@ use Rattle.spec.specs.Book.{Book, admittedOf}
 use Rattle.spec.specs.BookLayout.{SoundBook}
 use Rattle.spec.specs.Table.{mostRows}
 use Rattle.spec.proofs.Decided.Rows.{allRows}
-use Rattle.codes.specs.Code.{termCode, codesOf}
+use Rattle.codes.specs.Code.{termCode, codesOf, subgoalSize}
 use Rattle.row_list.specs.declared.RowsListed.{RowsListed}
 use Rattle.row_list.specs.declared.RowsListed.the-variants.{All, Over}
 
@@ -17,19 +17,19 @@ use Rattle.row_list.specs.declared.RowsListed.the-variants.{All, Over}
 pub record ListNeeds (book : List ℕ) (area : ℕ) : Type 0 where
   pub value : Book
   pub sound : SoundBook book value
-  pub room : 9 * mostRows ≤ area
+  pub room : subgoalSize * mostRows ≤ area
 
 module _ (s : Summaries) (q : Rule ℕ) (before after : List ℕ) where
   -- There are n summary rows, at most 64, and their codes stand at the front; the codes behind them stay.
   pub record AllStand (n : ℕ) : Type 0 where
     pub count : n ≡ length (allRows s q)
     pub few : n ≤ mostRows
-    pub codes : after ≡ codesOf termCode (allRows s q) ++ drop (9 * n) before
+    pub codes : after ≡ codesOf termCode (allRows s q) ++ drop (subgoalSize * n) before
 
   -- "more than 64 summary rows": the first 64 stand at the front, and the codes behind them stay.
   pub record RowsOver : Type 0 where
     pub many : mostRows < length (allRows s q)
-    pub codes : after ≡ codesOf termCode (take mostRows (allRows s q)) ++ drop (9 * mostRows) before
+    pub codes : after ≡ codesOf termCode (take mostRows (allRows s q)) ++ drop (subgoalSize * mostRows) before
 
   abbrev pub ListedSays : RowsListed → Type 0
   ListedSays (All n) = AllStand n

@@ -7,7 +7,7 @@ use Rattle.spec.specs.Words.{Term, Rule, Safe}
 use Rattle.spec.specs.RuleLayout.{RuleWithin}
 use Rattle.spec.specs.BookLayout.{Arities, questionMost}
 use Rattle.spec.specs.Table.{mostRows}
-use Rattle.codes.specs.Code.{termCode, codesOf}
+use Rattle.codes.specs.Code.{termCode, codesOf, subgoalSize}
 use Rattle.summary_rows.specs.RowTask.{onto}
 use Rattle.summary_rows.specs.RowsAfter.{RowsAfter}
 use Rattle.summary_rows.specs.declared.Tally.{Tally}
@@ -33,7 +33,7 @@ pub record SummaryTaskNeeds (relations bytes target own : List ℕ) (found area 
   pub question : Rule ℕ
   pub is : SummaryTask relations bytes target own rule question
   pub few : found ≤ mostRows
-  pub room : 9 * mostRows ≤ area
+  pub room : subgoalSize * mostRows ≤ area
 
 pub record PlacedRows (relations bytes target own : List ℕ) (number found : ℕ) (before after : List ℕ) (r : Tally) : Type 0 where
   pub rows : (v q : Rule ℕ) → SummaryTask relations bytes target own v q → RowsAfter number v q found before after r

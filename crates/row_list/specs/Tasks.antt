@@ -1,17 +1,24 @@
 -- What stands where the rows of one summary are asked for: its head's places and its body as the source, the question's terms and its body as the target.
 use mathlib.Core.Path.{_≡_}
 use mathlib.Core.List.{List, map}
-use Prim.Native.Nat.{ℕ, _≤_}
+use Prim.Native.Nat.{ℕ, _+_, _*_, _≤_}
 use lib.ListN.{length, replicate}
 use Rattle.spec.specs.Words.{Term, Rule, DistinctVariables}
 use Rattle.spec.specs.Order.{TermBefore}
-use Rattle.spec.specs.RuleLayout.{Layout}
-use Rattle.spec.specs.BookLayout.{questionMost, summaryMost}
+use Rattle.spec.specs.RuleLayout.{Layout, mostHead}
+use Rattle.spec.specs.BookLayout.{questionMost, summaryMost, mostArity}
 use Rattle.spec.specs.Given.{atFront}
 use Rattle.spec.proofs.Lists.Enumerate.{Enumerates}
 use Rattle.codes.specs.Code.{termCode, slotCode, codesOf, widthsOf}
 use Rattle.search_meaning.specs.Coded.{TermIn}
 use Rattle.summary_rows.specs.RowTask.{placed, onto}
+
+-- A source has a place for each term of a summary's head, and its subgoals; a target each term of the question, and its subgoals.
+abbrev pub sourceMost : ℕ
+sourceMost = mostHead + summaryMost
+
+abbrev pub targetMost : ℕ
+targetMost = mostArity * questionMost + questionMost
 
 -- The bytes are a summary's: "a rule whose head is distinct variables".
 pub record SummaryIs (relations bytes : List ℕ) (v : Rule ℕ) : Type 0 where
@@ -24,7 +31,7 @@ pub record SomeSummary (relations bytes : List ℕ) : Type 0 where
 
 -- the slots of the head's variables, one after the other
 pub record HeadSlots (bytes slots : List ℕ) : Type 0 where
-  pub is : (relations : List ℕ) (v : Rule ℕ) → SummaryIs relations bytes v → slots ≡ atFront (map slotCode (v .head)) (replicate 8 0)
+  pub is : (relations : List ℕ) (v : Rule ℕ) → SummaryIs relations bytes v → slots ≡ atFront (map slotCode (v .head)) (replicate mostHead 0)
 
 -- The source's codes and widths at the front of two areas; n source subgoals.
 pub record SourceCodes (relations bytes before after old new : List ℕ) (n : ℕ) : Type 0 where
@@ -36,7 +43,7 @@ pub record SourceCodes (relations bytes before after old new : List ℕ) (n : �
 pub record TermsOf (q : Rule ℕ) (ts : List (Term ℕ)) : Type 0 where
   pub all : Enumerates (λ t. TermIn t (q .body)) TermBefore ts
   -- 12 subgoals of at most 8 terms
-  pub few : length ts ≤ 96
+  pub few : length ts ≤ mostArity * questionMost
 
 -- The target's codes at the front of an area; n targets.
 pub record TargetCodes (relations bytes before after : List ℕ) (n : ℕ) : Type 0 where

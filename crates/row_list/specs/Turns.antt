@@ -9,6 +9,7 @@ use Rattle.spec.specs.Summaries.{summary}
 use Rattle.spec.specs.Book.{Book, admittedOf}
 use Rattle.spec.specs.BookLayout.{SoundBook}
 use Rattle.spec.specs.Table.{mostRows}
+use Rattle.codes.specs.Code.{subgoalSize}
 use Rattle.admission.specs.Admission.{HasSummary}
 use Rattle.summary_rows.specs.RowsAfter.{RowsAfter}
 use Rattle.summary_rows.specs.Tables.{TableTo}
@@ -24,7 +25,7 @@ pub record TurnNeeds (book target own : List ℕ) (i found area : ℕ) : Type 0 
   pub has : HasSummary book i
   pub onto : TargetNeeds book target own
   pub few : found ≤ mostRows
-  pub room : 9 * mostRows ≤ area
+  pub room : subgoalSize * mostRows ≤ area
 
 -- An admitted summary's rows come behind those found before; "A summary left out has no say".
 pub record TurnSays (book : List ℕ) (i found : ℕ) (before after : List ℕ) (r : Tally) : Type 0 where

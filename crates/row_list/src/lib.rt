@@ -6,11 +6,14 @@ ghost use lib.ListN.{length};
 
 mod tasks; // one summary and the question as a task
 
+use crate::tasks::SOURCE_CODES;
+use crate::tasks::SOURCES;
+use crate::tasks::TARGET_CODES;
+use crate::tasks::TARGETS;
 use crate::tasks::put_source;
 use crate::tasks::put_target;
 use admission::summaries::is_in;
 use books::parts::part_of;
-use codes::QUESTION_CODES;
 use codes::SUBGOAL_CODES;
 use contents::fields::count_of;
 use rule_codes::places::head_count;
@@ -36,10 +39,10 @@ fn rows_by(
     requires { ⌜ SummaryTaskNeeds (now relations) (now body) (now target) (now own) found (length (now out)) ⌝ }
     ensures { λ r. ⌜ PlacedRows (now (relations .entry)) (now (body .entry)) (now (target .entry)) (now (own .entry)) number found (now (out .entry)) (now (out .exit)) r ⌝ }
 {
-    let mut source = [0u64; 144];
-    let mut widths = [1u8; 16];
+    let mut source = [0u64; SOURCE_CODES];
+    let mut widths = [1u8; SOURCES];
     let goals = put_source(body, relations, &mut source, &mut widths);
-    let lasts = [0u8; 16];
+    let lasts = [0u8; SOURCES];
     let heads = head_count(body);
     rows_of(
         &source[..SUBGOAL_CODES * goals],
@@ -101,9 +104,9 @@ pub fn list_rows(book: &[u8], out: &mut [u64]) -> RowsListed
     requires { ⌜ ListNeeds (now book) (length (now out)) ⌝ }
     ensures { λ r. ⌜ ListSays (now (book .entry)) (now (out .entry)) (now (out .exit)) r ⌝ }
 {
-    let mut target = [0u64; 972];
+    let mut target = [0u64; TARGET_CODES];
     let targets = put_target(part_of(book, 1), part_of(book, 0), &mut target);
-    let own = [0u8; QUESTION_CODES];
+    let own = [0u8; TARGETS];
     list_onto(
         book,
         &target[..SUBGOAL_CODES * targets],

@@ -6,7 +6,7 @@ use lib.ListN.{length, take}
 use Rattle.spec.specs.Words.{Term, Rule, DistinctVariables}
 use Rattle.spec.specs.BookLayout.{Arities, questionMost}
 use Rattle.spec.specs.RuleLayout.{TermsWithin, Layout}
-use Rattle.codes.specs.Code.{termCode}
+use Rattle.codes.specs.Code.{termCode, subgoalSize}
 
 -- A rule over some relations.
 pub record Laid (bytes : List ℕ) : Type 0 where
@@ -49,4 +49,4 @@ pub record UseFor (arities bytes row : List ℕ) (area : ℕ) : Type 0 where
   pub rule : Rule ℕ
   pub terms : List (Term ℕ)
   pub is : UseOf arities bytes row rule terms
-  pub room : 9 * length (rule .body) ≤ area
+  pub room : subgoalSize * length (rule .body) ≤ area

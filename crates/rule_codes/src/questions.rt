@@ -1,6 +1,7 @@
 // The terms of a question, in ascending order.
 ghost use Prim.Native.Nat.{_≤_};
 ghost use lib.ListN.{length};
+ghost use Rattle.codes.specs.Code.{questionCodes};
 ghost use Rattle.rule_codes.specs.Laid.{QuestionLaid};
 ghost use Rattle.rule_codes.specs.BodyTerms.{BodyTerms};
 use crate::ascending::ascending;
@@ -12,7 +13,7 @@ use codes::VARIABLE;
 
 // The terms of a question's body, as codes, ascending and each once, at the front of `out`. (A summary's row has no other terms.) Returns how many there are.
 pub fn body_terms(body: &[u8], relations: &[u8], out: &mut [u64]) -> usize
-    requires { ⌜ QuestionLaid (now relations) (now body) × (108 ≤ length (now out)) ⌝ }
+    requires { ⌜ QuestionLaid (now relations) (now body) × (questionCodes ≤ length (now out)) ⌝ }
     ensures { λ r. ⌜ BodyTerms (now (relations .entry)) (now (body .entry)) (now (out .entry)) (now (out .exit)) r ⌝ }
 {
     let table = base_table(VARIABLE);

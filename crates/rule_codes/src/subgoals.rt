@@ -2,6 +2,7 @@
 ghost use mathlib.Core.Path.{_≡_};
 ghost use Prim.Native.Nat.{_+_, _<_, _≤_};
 ghost use lib.ListN.{length, getD};
+ghost use Rattle.codes.specs.Code.{subgoalSize};
 ghost use Rattle.rule_codes.specs.Codes.{tabled};
 ghost use Rattle.rule_codes.specs.Laid.{LaidFor};
 ghost use Rattle.rule_codes.specs.Promises.{BodyCodes, BodyWidths};
@@ -31,7 +32,7 @@ fn put_subgoal(
     out: &mut [u64],
     to: usize,
 )
-    requires { ⌜ SomeGoal (now body) at arity × (to + 9 ≤ length (now out)) ⌝ }
+    requires { ⌜ SomeGoal (now body) at arity × (to + subgoalSize ≤ length (now out)) ⌝ }
     ensures { λ _. ⌜ NineAt (now (body .entry)) at arity to (now (table .entry)) (now (out .entry)) (now (out .exit)) ⌝ }
 {
     out[to] = wide(body[at]) as u64;
@@ -49,7 +50,7 @@ pub fn put_subgoals(
     table: &[u64; VARIABLES],
     out: &mut [u64],
 ) -> usize
-    requires { ⌜ LaidFor (now relations) (now body) 9 (length (now out)) ⌝ }
+    requires { ⌜ LaidFor (now relations) (now body) subgoalSize (length (now out)) ⌝ }
     ensures { λ r. ⌜ BodyCodes (now (relations .entry)) (now (body .entry)) (tabled (now (table .entry))) (now (out .entry)) (now (out .exit)) r ⌝ }
 {
     let goals = goal_count(body);

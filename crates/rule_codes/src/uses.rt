@@ -1,6 +1,7 @@
 // One use of a summary: its body's codes in place of a summary subgoal.
 ghost use Prim.Native.Nat.{ℕ, _<_};
 ghost use lib.ListN.{length};
+ghost use Rattle.spec.specs.Table.{mostRows};
 ghost use Rattle.codes.specs.Code.{ownCode, ownSlot, keptSlot};
 ghost use Rattle.rule_codes.specs.Codes.{Base, basedUse};
 ghost use Rattle.rule_codes.specs.Laid.{UseFor};
@@ -32,7 +33,7 @@ fn use_codes(
 
 // Use u as a target: the row's terms as they are, and the use's own variables apart from every other use's. Returns how many subgoals there are.
 pub fn own_codes(body: &[u8], relations: &[u8], row: &[u64], u: u64, out: &mut [u64]) -> usize
-    requires { ⌜ UseFor (now relations) (now body) (now row) (length (now out)) × (u < 64) ⌝ }
+    requires { ⌜ UseFor (now relations) (now body) (now row) (length (now out)) × (u < mostRows) ⌝ }
     ensures { λ r. ⌜ UseCodes (now (relations .entry)) (now (body .entry)) (now (row .entry)) ownCode u (now (out .entry)) (now (out .exit)) r ⌝ }
 {
     use_codes(body, relations, row, VARIABLE, FRESH + OWN * u, out)

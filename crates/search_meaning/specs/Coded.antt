@@ -7,7 +7,10 @@ use lib.ListN.{length, getD}
 use Rattle.spec.specs.Words.{_∈_, Term, var, con, Subgoal, becomes, each}
 use Rattle.spec.specs.Summaries.{place}
 use Rattle.spec.specs.Answer.{AtPlaces}
-use Rattle.codes.specs.Code.{codesOf, widthsOf}
+use Rattle.spec.specs.BookLayout.{mostArity}
+use Rattle.spec.specs.Table.{mostRows}
+use Rattle.spec.specs.RuleLayout.{variables}
+use Rattle.codes.specs.Code.{codesOf, widthsOf, mostSlots, usesGoals}
 use Rattle.task.specs.Task.{Task, posed}
 use Rattle.task.specs.Mapped.{useOf}
 
@@ -39,21 +42,21 @@ module _ {S D : Type 0} (n : Naming S) (c : Coding D) (src : List (Subgoal S)) (
   -- What the maker of a task sees to, so that the codes say what the terms say.
   pub record Ready (b : List ℕ) : Type 0 where
     -- a subgoal's codes have room for eight terms
-    pub room : (g : Subgoal S) → g ∈ src → length (g .terms) ≤ 8
+    pub room : (g : Subgoal S) → g ∈ src → length (g .terms) ≤ mostArity
     -- a relation has one arity
     pub alike : (g : Subgoal S) (h : Subgoal D) → g ∈ src → h ∈ tgt → g .relation ≡ h .relation → length (g .terms) ≡ length (h .terms)
     pub rows : length own ≡ length tgt
     -- no two terms of the target have one code
     pub known : (d : D) → TermIn d tgt → c .read (c .code d) ≡ d
     -- a slot stands for the term whose code it is
-    pub named : (t : S) → TermIn t src → n .code t < 64 → n .name (n .home t) (n .code t) ≡ t
-    pub shared : (u w x : ℕ) → x < 32 → n .name u x ≡ n .name w x
+    pub named : (t : S) → TermIn t src → n .code t < mostSlots → n .name (n .home t) (n .code t) ≡ t
+    pub shared : (u w x : ℕ) → x < variables → n .name u x ≡ n .name w x
     -- a use's own terms stand in that use alone
-    pub apart : (i : ℕ) (g : Subgoal S) → place src (suc i) ≡ some g → (t : S) → t ∈ g .terms → 32 ≤ n .code t → n .code t < 64 → n .home t ≡ useOf task i
+    pub apart : (i : ℕ) (g : Subgoal S) → place src (suc i) ≡ some g → (t : S) → t ∈ g .terms → variables ≤ n .code t → n .code t < mostSlots → n .home t ≡ useOf task i
     -- a code that is no slot is that of a target's term
-    pub kept : (t : S) → TermIn t src → 64 ≤ n .code t → c .code (c .read (n .code t)) ≡ n .code t
+    pub kept : (t : S) → TermIn t src → mostSlots ≤ n .code t → c .code (c .read (n .code t)) ≡ n .code t
     -- what is bound from the start: shared slots, to codes of the target's terms
-    pub low : (x : ℕ) → Bound b x → x < 32
+    pub low : (x : ℕ) → Bound b x → x < variables
     pub slot : (x : ℕ) → Bound b x → n .code (n .name 0 x) ≡ x
     pub given : (x : ℕ) → Bound b x → c .code (c .read (getD b x 0)) ≡ getD b x 0
 
@@ -61,7 +64,7 @@ module _ {S D : Type 0} (n : Naming S) (c : Coding D) (src : List (Subgoal S)) (
 pub record Valued {S D : Type 0} (n : Naming S) (c : Coding D) (src : List (Subgoal S)) (tgt : List (Subgoal D)) (b l : List ℕ) : Type 0 where
   pub value : S → D
   pub sends : AtPlaces tgt (map suc l) (map (each value) src)
-  pub keeps : (t : S) → TermIn t src → 64 ≤ n .code t → value t ≡ c .read (n .code t)
+  pub keeps : (t : S) → TermIn t src → mostSlots ≤ n .code t → value t ≡ c .read (n .code t)
   pub extends : (x : ℕ) → Bound b x → value (n .name 0 x) ≡ c .read (getD b x 0)
 
 -- The same over terms of rules: variables have values, constants stay themselves. `names` says which variable a bound slot stands for.
@@ -72,17 +75,17 @@ pub record Sent {X Y : Type 0} (c : Coding (Term Y)) (names : ℕ → X) (src : 
 
 -- The source's variables are slots; a constant's code is the one that it has in the target.
 pub record OverTerms {X Y : Type 0} (n : Naming (Term X)) (c : Coding (Term Y)) (names : ℕ → X) (src : List (Subgoal (Term X))) (b : List ℕ) : Type 0 where
-  pub slots : (x : X) → TermIn (var x) src → n .code (var x) < 64
-  pub constants : (k : ℕ) → TermIn (con k) src → 64 ≤ n .code (con k)
+  pub slots : (x : X) → TermIn (var x) src → n .code (var x) < mostSlots
+  pub constants : (k : ℕ) → TermIn (con k) src → mostSlots ≤ n .code (con k)
   pub same : (k : ℕ) → TermIn (con k) src → c .read (n .code (con k)) ≡ con k
   pub named : (x : ℕ) → Bound b x → n .name 0 x ≡ var (names x)
 
 -- What makes the task one that the search takes.
 pub record SmallTask {S D : Type 0} (c : Coding D) (src : List (Subgoal S)) (lasts : List ℕ) (tgt : List (Subgoal D)) (own : List ℕ) : Type 0 where
-  pub few : length src ≤ 96
+  pub few : length src ≤ usesGoals
   pub many : length tgt ≤ 512
-  pub room : (g : Subgoal S) → g ∈ src → length (g .terms) ≤ 8
+  pub room : (g : Subgoal S) → g ∈ src → length (g .terms) ≤ mostArity
   pub marked : length lasts ≡ length src
   pub rows : length own ≡ length tgt
-  pub sets : (k : ℕ) → getD own k 0 < 64
+  pub sets : (k : ℕ) → getD own k 0 < mostRows
   pub solid : (d : D) → TermIn d tgt → c .code d ≡ 0 → ⊥

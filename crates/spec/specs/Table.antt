@@ -13,10 +13,10 @@ use Rattle.spec.specs.Refusals.{ofBook, Refusal}
 use Rattle.spec.specs.declared.Reason.{Reason}
 
 -- "answer area below 534 bytes, or witness area below 120"
-unfoldable pub answerRoom : ℕ
+abbrev pub answerRoom : ℕ
 answerRoom = 534
 
-unfoldable pub witnessRoom : ℕ
+abbrev pub witnessRoom : ℕ
 witnessRoom = 120
 
 abbrev pub Fault1 : ℕ → ℕ → Type 0

@@ -7,6 +7,7 @@ use native.Mathlib.Omega.{arith}
 use lib.ListN.{length, take, length-append, take-append-drop}
 use lib.Seq.{take-all, take-at, paste}
 use borrow.Author.Tests.{lt-ltb, le-ltb}
+use Rattle.spec.proofs.Decided.Rows.{asRow}
 use Rattle.spec.specs.Words.{Term, Subgoal, Rule}
 use Rattle.spec.specs.Order.{RowBefore}
 use Rattle.spec.specs.Table.{mostRows}
@@ -19,7 +20,7 @@ use Rattle.summary_rows.specs.RowPlaces.{StartPlaces, NextPlaces}
 use Rattle.summary_rows.specs.RowCodes.{rowCodes}
 use Rattle.summary_rows.specs.RowsAfter.{RowBy, RowsAfter}
 use Rattle.summary_rows.proofs.AtTerms.{Stand}
-use Rattle.summary_rows.proofs.RowOrder.{rowOf, start-row, start-empty, next-row, next-empty}
+use Rattle.summary_rows.proofs.RowOrder.{start-row, start-empty, next-row, next-empty}
 use Rattle.summary_rows.proofs.RowCodes.{row-codes}
 use Rattle.summary_rows.proofs.RowsExist.{rows-exist}
 use Rattle.summary_rows.proofs.Residual.{first-of, none-of, rest-enumerates}
@@ -32,7 +33,7 @@ pub record RowsSoFar (n : ℕ) (v q : Rule ℕ) (ts : List (Term ℕ)) (h found 
   pub all : Enumerates (RowBy n v q) RowBefore (done ++ rest)
   pub counted : count ≡ found + length done
   pub codes : out ≡ table before found done count
-  pub next : ok ≡ true → (row : List (Term ℕ)) × (more : List (Subgoal (Term ℕ))) × Stand ts (take h ks) row × (rest ≡ rowOf n row ∷ more)
+  pub next : ok ≡ true → (row : List (Term ℕ)) × (more : List (Subgoal (Term ℕ))) × Stand ts (take h ks) row × (rest ≡ asRow n row ∷ more)
   pub last : ok ≡ false → rest ≡ []
 
 module _ (n : ℕ) (v q : Rule ℕ) (ts : List (Term ℕ)) (p : Task) (h : ℕ) (w : TaskOf v q ts p h) (found : ℕ) (before : List ℕ) where
@@ -46,7 +47,7 @@ module _ (n : ℕ) (v q : Rule ℕ) (ts : List (Term ℕ)) (p : Task) (h : ℕ) 
     codes = sym (take-append-drop (9 * found) before);
     next = λ ok. (
         let f = start-row n v q ts p h w (take h (r .ks)) (a .found ok) in
-        let g = first-of rowOrder (rows .0) (rows .1) (rowOf n (f .0)) (f .2) in
+        let g = first-of rowOrder (rows .0) (rows .1) (asRow n (f .0)) (f .2) in
         (f .0, g .0, f .1, g .1));
     last = λ fails. none-of rowOrder (rows .0) (rows .1) (start-empty n v q ts p h w (a .none fails));
   }
@@ -65,16 +66,16 @@ module _ (n : ℕ) (v q : Rule ℕ) (ts : List (Term ℕ)) (p : Task) (h : ℕ) 
     codes = e ∙ ap₂ (λ t y. paste t (9 * count) y 9) (s .codes) (row-codes v q ts p h w n (take h ks) (x .0) (x .2)) ∙ table-more before found (s .done) count (s .counted) room g;
     next = λ ok. (
         let f = next-row n v q ts p h w ks (x .0) (x .2) (take h (r .ks)) (a .found ok) in
-        let y = first-of rowOrder (x .1) left (rowOf n (f .0)) (f .2) in
+        let y = first-of rowOrder (x .1) left (asRow n (f .0)) (f .2) in
         (f .0, y .0, f .1, y .1));
     last = λ fails. none-of rowOrder (x .1) left (next-empty n v q ts p h w ks (x .0) (x .2) (a .none fails));
   }
     where
-      x : (row : List (Term ℕ)) × (more : List (Subgoal (Term ℕ))) × Stand ts (take h ks) row × (s .rest ≡ rowOf n row ∷ more)
+      x : (row : List (Term ℕ)) × (more : List (Subgoal (Term ℕ))) × Stand ts (take h ks) row × (s .rest ≡ asRow n row ∷ more)
       x = s .next refl
 
       g : Subgoal (Term ℕ)
-      g = rowOf n (x .0)
+      g = asRow n (x .0)
 
       all : Enumerates (RowBy n v q) RowBefore (s .done ++ (g ∷ x .1))
       all = subst (λ l. Enumerates (RowBy n v q) RowBefore (s .done ++ l)) (x .3) (s .all)

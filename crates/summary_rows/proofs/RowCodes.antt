@@ -6,6 +6,7 @@ use Prim.Native.Nat.{ℕ, zero, suc, _+_, _*_, _-_, _<_, _≤_}
 use native.Mathlib.Omega.{arith}
 use lib.ListN.{length, getD, take, length-map}
 use lib.Seq.{length-take-le, getD-take}
+use Rattle.spec.proofs.Decided.Rows.{asRow}
 use Rattle.spec.specs.Words.{Term, Rule}
 use Rattle.spec.specs.Summaries.{place}
 use Rattle.spec.proofs.Lists.At.{map-get, place-getD}
@@ -17,7 +18,6 @@ use Rattle.summary_rows.specs.RowTask.{alone, onto, TaskOf}
 use Rattle.summary_rows.specs.RowCodes.{rowCodes}
 use Rattle.summary_rows.proofs.AtTerms.{Stand, place-front}
 use Rattle.summary_rows.proofs.HeadLaws.{alone-term}
-use Rattle.summary_rows.proofs.RowOrder.{rowOf}
 
 padded-in : (f : ℕ → ℕ) (n : ℕ) (l : List ℕ) (i : ℕ) → i < n → i < length l → getD (padded n (map f l)) i 0 ≡ f (getD l i 0)
 padded-in f n l i h m = padded-get n (map f l) i h (omega (arith, length-map l f)) ∙ map-get f l i 0 0 m
@@ -60,6 +60,6 @@ module _ (v q : Rule ℕ) (ts : List (Term ℕ)) (p : Task) (h : ℕ) (w : TaskO
   codes-of (k ∷ js) [] s = absurd s
   codes-of (k ∷ js) (t ∷ row) s = ap₂ _∷_ (code-of k t (s .0)) (codes-of js row (s .1))
 
-  pub row-codes : (n : ℕ) (js : List ℕ) (row : List (Term ℕ)) → Stand ts js row → rowCodes n (p .target) js ≡ subgoalCodes termCode (rowOf n row)
+  pub row-codes : (n : ℕ) (js : List ℕ) (row : List (Term ℕ)) → Stand ts js row → rowCodes n (p .target) js ≡ subgoalCodes termCode (asRow n row)
   unfolding rowCodes
   row-codes n js row s = ap (λ l. n ∷ padded 8 l) (codes-of js row s)

@@ -6,13 +6,15 @@ use mathlib.Core.List.{List, [], _∷_, _++_}
 use Prim.Native.Nat.{ℕ, _+_, _*_, _-_, _<_, _≤_}
 use lib.ListN.{length, getD, set, take, drop, replicate}
 use Rattle.spec.specs.Order.{ListBefore, First}
+use Rattle.spec.specs.RuleLayout.{mostHead}
+use Rattle.codes.specs.Code.{mostSlots, subgoalSize, usesGoals}
 use Rattle.task.specs.Task.{Task, Sized, goals, targets, sourceRelation, targetRelation, widthOf, lastOf, Agrees, Completes}
 use Rattle.task.specs.Mapped.{Mapped}
 use Rattle.placing.specs.declared.Places.{Places}
 
 -- the one term of a place of the head
 abbrev pub headTerm : Task → ℕ → ℕ
-headTerm p i = getD (p .source) (9 * i + 1) 0
+headTerm p i = getD (p .source) (subgoalSize * i + 1) 0
 
 -- A task of rows: one use, and the first h source subgoals have one term each.
 pub record HeadTask (p : Task) (h : ℕ) : Type 0 where
@@ -21,9 +23,9 @@ pub record HeadTask (p : Task) (h : ℕ) : Type 0 where
   pub single : (i : ℕ) → i < h → widthOf p i ≡ 1
   pub inside : h ≤ goals p
   -- "a head (0 to 8 terms)"
-  pub short : h ≤ 8
+  pub short : h ≤ mostHead
   -- "a rule whose head is distinct variables"
-  pub slots : (i : ℕ) → i < h → headTerm p i < 64
+  pub slots : (i : ℕ) → i < h → headTerm p i < mostSlots
   pub apart : (i k : ℕ) → i < k → k < h → headTerm p i ≡ headTerm p k → ⊥
   -- "every head variable stands in the body": where the body has its targets, each place of the head has one
   pub safe : (v : ℕ → ℕ) (l : List ℕ) → Completes p (goals p - h) h v l → (i : ℕ) → i < h → (k : ℕ) × (k < targets p) × Agrees p v i k
@@ -52,7 +54,7 @@ pub record FirstRow (Ok : List ℕ → Type 0) (h : ℕ) (before : List ℕ) (r 
   pub kept : r .ok ≡ false → r .ks ≡ before
 
 abbrev pub StartPlaces : Task → ℕ → Places → Type 0
-StartPlaces p h = FirstRow (RowPlaces p h) h (replicate 96 0)
+StartPlaces p h = FirstRow (RowPlaces p h) h (replicate usesGoals 0)
 
 abbrev pub NextPlaces : Task → ℕ → List ℕ → Places → Type 0
 NextPlaces p h ks = FirstRow (LaterPlaces p h ks) h ks

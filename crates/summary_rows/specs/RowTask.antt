@@ -1,12 +1,12 @@
 -- The task whose mappings give the rows of one summary: the places of its head, then its body, are placed on the question's terms, in ascending order, then the question's body.
 use mathlib.Core.Path.{_≡_}
 use mathlib.Core.List.{List, [], _∷_, _++_, map}
-use Prim.Native.Nat.{ℕ, _≤_}
+use Prim.Native.Nat.{ℕ, _*_, _≤_}
 use lib.ListN.{length, replicate}
 use Rattle.spec.specs.Words.{Term, Subgoal, Rule, Safe, DistinctVariables}
 use Rattle.spec.specs.Order.{TermBefore}
 use Rattle.spec.specs.RuleLayout.{RuleWithin}
-use Rattle.spec.specs.BookLayout.{Arities, questionMost, summaryMost}
+use Rattle.spec.specs.BookLayout.{Arities, questionMost, summaryMost, mostArity}
 use Rattle.spec.proofs.Lists.Enumerate.{Enumerates}
 use Rattle.task.specs.Task.{Task}
 use Rattle.search_meaning.specs.Coded.{TermIn, task}
@@ -35,7 +35,7 @@ pub record TaskOf (v q : Rule ℕ) (ts : List (Term ℕ)) (p : Task) (h : ℕ) :
   pub long : length (v .head) ≡ h
   pub terms : Enumerates (λ t. TermIn t (q .body)) TermBefore ts
   -- 12 subgoals of at most 8 terms
-  pub few : length ts ≤ 96
+  pub few : length ts ≤ mostArity * questionMost
   pub arities : List ℕ
   pub relations : Arities arities
   pub summary : RuleWithin arities summaryMost v

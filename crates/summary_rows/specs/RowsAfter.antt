@@ -8,7 +8,7 @@ use Rattle.spec.specs.Words.{Term, con, Subgoal, Rule, Listed, Yields}
 use Rattle.spec.specs.Order.{RowBefore}
 use Rattle.spec.specs.Table.{mostRows}
 use Rattle.spec.proofs.Lists.Enumerate.{Enumerates}
-use Rattle.codes.specs.Code.{termCode, codesOf}
+use Rattle.codes.specs.Code.{termCode, codesOf, subgoalSize}
 use Rattle.task.specs.Task.{Task}
 use Rattle.summary_rows.specs.RowTask.{TaskOf}
 use Rattle.summary_rows.specs.declared.Tally.{Tally}
@@ -26,7 +26,7 @@ pub record RowsAfter (n : ℕ) (v q : Rule ℕ) (found : ℕ) (before after : Li
   pub all : Enumerates (RowBy n v q) RowBefore rows
   pub over : r .over ≡ ltb mostRows (found + length rows)
   pub count : r .count ≡ found + length (take (mostRows - found) rows)
-  pub codes : after ≡ take (9 * found) before ++ (codesOf termCode (take (mostRows - found) rows) ++ drop (9 * r .count) before)
+  pub codes : after ≡ take (subgoalSize * found) before ++ (codesOf termCode (take (mostRows - found) rows) ++ drop (subgoalSize * r .count) before)
 
 -- What is asked: the task of some summary and question, at most 64 rows so far, and room for 64.
 pub record RowsNeeds (p : Task) (h found area : ℕ) : Type 0 where
@@ -35,7 +35,7 @@ pub record RowsNeeds (p : Task) (h found area : ℕ) : Type 0 where
   pub terms : List (Term ℕ)
   pub task : TaskOf rule question terms p h
   pub few : found ≤ mostRows
-  pub room : 9 * mostRows ≤ area
+  pub room : subgoalSize * mostRows ≤ area
 
 -- What is promised, of every summary and question whose task it is.
 pub record RowsSays (p : Task) (h n found : ℕ) (before after : List ℕ) (r : Tally) : Type 0 where

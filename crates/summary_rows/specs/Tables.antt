@@ -8,7 +8,7 @@ use Rattle.spec.specs.Summaries.{Summaries, SummaryRow}
 use Rattle.spec.specs.Order.{RowBefore}
 use Rattle.spec.specs.Table.{mostRows}
 use Rattle.spec.proofs.Lists.Enumerate.{Enumerates}
-use Rattle.codes.specs.Code.{termCode, codesOf}
+use Rattle.codes.specs.Code.{termCode, codesOf, subgoalSize}
 
 -- a row of one of the summaries 1 to n; a summary that is left out has none
 pub record RowTo (s : Summaries) (q : Rule ℕ) (n : ℕ) (g : Subgoal (Term ℕ)) : Type 0 where
@@ -21,4 +21,4 @@ pub record TableTo (s : Summaries) (q : Rule ℕ) (n : ℕ) (before out : List �
   pub all : Enumerates (RowTo s q n) RowBefore rows
   pub counted : count ≡ length rows
   pub few : count ≤ mostRows
-  pub codes : out ≡ codesOf termCode rows ++ drop (9 * count) before
+  pub codes : out ≡ codesOf termCode rows ++ drop (subgoalSize * count) before

@@ -3,6 +3,7 @@ ghost use mathlib.Core.Path.{_≡_};
 ghost use Prim.Native.Nat.{_+_, _*_, _<_, _≤_};
 ghost use lib.ListN.{length, getD, take};
 ghost use lib.Seq.{paste};
+ghost use Rattle.codes.specs.Code.{subgoalSize};
 ghost use Rattle.task.specs.Task.{posed};
 ghost use Rattle.summary_rows.specs.FixedPlaces.{InReach};
 ghost use Rattle.summary_rows.specs.RowCodes.{rowCodes};
@@ -25,7 +26,7 @@ pub struct Tally {
 // Code i of a row: its summary's number, the codes of its terms, and 1 where they have ended.
 fn row_code(target: &[u64], number: u64, head: usize, ks: [u16; USES_GOALS], i: usize) -> u64
     requires { ⌜ InReach (now target) ks head ⌝ }
-    requires { ⌜ i < 9 ⌝ }
+    requires { ⌜ i < subgoalSize ⌝ }
     ensures { λ r. ⌜ r ≡ getD (rowCodes number (now (target .entry)) (take head ks)) i 0 ⌝ }
 {
     if i == 0 {
@@ -48,8 +49,8 @@ fn put_row(
     out: &mut [u64],
 )
     requires { ⌜ InReach (now target) ks head ⌝ }
-    requires { ⌜ 9 * count + 9 ≤ length (now out) ⌝ }
-    ensures { λ _. ⌜ now (out .exit) ≡ paste (now (out .entry)) (9 * count) (rowCodes number (now (target .entry)) (take head ks)) 9 ⌝ }
+    requires { ⌜ subgoalSize * count + subgoalSize ≤ length (now out) ⌝ }
+    ensures { λ _. ⌜ now (out .exit) ≡ paste (now (out .entry)) (subgoalSize * count) (rowCodes number (now (target .entry)) (take head ks)) subgoalSize ⌝ }
 {
     let at = SUBGOAL_CODES * count;
     let mut i: usize = 0;

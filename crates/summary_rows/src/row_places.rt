@@ -5,6 +5,7 @@ ghost use Prim.Native.Nat.{_*_, _<_, _≤_};
 ghost use lib.ListN.{length, take, drop};
 ghost use Rattle.task.specs.Task.{posed};
 ghost use Rattle.spec.specs.Order.{ListBefore, First};
+ghost use Rattle.codes.specs.Code.{subgoalSize};
 ghost use Rattle.summary_rows.specs.RowPlaces.{HeadTask, NextRowNeeds, FrontNeeds, OnTargets, PlacesWith, StartPlaces, NextPlaces, Begins, NextPlace};
 ghost use Rattle.summary_rows.specs.FixedPlaces.{binding, fixing, InReach};
 use codes::SLOTS;
@@ -31,7 +32,7 @@ fn bound(g: [u64; SLOTS], x: u64, y: u64) -> [u64; SLOTS]
 // The bindings that put the first j source subgoals on the targets ks.
 fn fixed(source: &[u64], target: &[u64], j: usize, ks: [u16; USES_GOALS]) -> [u64; SLOTS]
     requires { ⌜ InReach (now target) ks j ⌝ }
-    requires { ⌜ 9 * j ≤ length (now source) ⌝ }
+    requires { ⌜ subgoalSize * j ≤ length (now source) ⌝ }
     ensures { λ r. ⌜ r ≡ fixing (now (source .entry)) (now (target .entry)) ks j ⌝ }
 {
     let mut g = [0u64; SLOTS];

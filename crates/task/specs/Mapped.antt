@@ -8,6 +8,7 @@ use lib.ListN.{length, getD}
 use lib.Dec.{eqb}
 use Rattle.spec.specs.Words.{_∈_}
 use Rattle.spec.specs.Order.{ListBefore, First}
+use Rattle.spec.specs.RuleLayout.{variables}
 use Rattle.bits.specs.Sets.{Has}
 use Rattle.task.specs.Task.{Task, rowOf, goals, targets, lastOf, Agrees, Extends}
 
@@ -31,7 +32,7 @@ pub record Lands (p : Task) (val : ℕ → ℕ → ℕ) (i k : ℕ) : Type 0 whe
 -- l has, for each source subgoal, the target that it becomes under one value for each shared variable and one for each use's own.
 pub record Mapped (p : Task) (b l : List ℕ) : Type 0 where
   pub val : ℕ → ℕ → ℕ
-  pub shared : (u w x : ℕ) → x < 32 → val u x ≡ val w x
+  pub shared : (u w x : ℕ) → x < variables → val u x ≡ val w x
   -- what is bound from the start
   pub given : Extends b (val 0)
   pub long : length l ≡ goals p

@@ -7,6 +7,10 @@ use mathlib.Core.List.{List, [], _∷_}
 use Prim.Native.Nat.{ℕ, zero, suc, _+_, _*_, _<_, _≤_}
 use lib.ListN.{length, getD}
 use lib.Dec.{ltb}
+use Rattle.spec.specs.BookLayout.{mostArity}
+use Rattle.spec.specs.Table.{mostRows}
+use Rattle.spec.specs.RuleLayout.{variables}
+use Rattle.codes.specs.Code.{subgoalSize, usesGoals, mostSlots}
 
 pub record Task : Type 0 where
   -- the codes of the source subgoals
@@ -31,16 +35,16 @@ abbrev pub targets : Task → ℕ
 targets p = length (p .own)
 
 abbrev pub sourceRelation : Task → ℕ → ℕ
-sourceRelation p i = getD (p .source) (9 * i) 0
+sourceRelation p i = getD (p .source) (subgoalSize * i) 0
 
 abbrev pub sourceTerm : Task → ℕ → ℕ → ℕ
-sourceTerm p i a = getD (p .source) (9 * i + 1 + a) 0
+sourceTerm p i a = getD (p .source) (subgoalSize * i + 1 + a) 0
 
 abbrev pub targetRelation : Task → ℕ → ℕ
-targetRelation p k = getD (p .target) (9 * k) 0
+targetRelation p k = getD (p .target) (subgoalSize * k) 0
 
 abbrev pub targetTerm : Task → ℕ → ℕ → ℕ
-targetTerm p k a = getD (p .target) (9 * k + 1 + a) 0
+targetTerm p k a = getD (p .target) (subgoalSize * k + 1 + a) 0
 
 abbrev pub widthOf : Task → ℕ → ℕ
 widthOf p i = getD (p .widths) i 0
@@ -54,22 +58,22 @@ rowOf p k = getD (p .own) k 0
 -- What a task's maker sees to.
 pub record Sized (p : Task) : Type 0 where
   -- at most 12 summaries of at most 8 subgoals
-  pub few : goals p ≤ 96
-  pub source : length (p .source) ≡ 9 * goals p
+  pub few : goals p ≤ usesGoals
+  pub source : length (p .source) ≡ subgoalSize * goals p
   pub lasts : length (p .lasts) ≡ goals p
   -- at most 64 rows of at most 8 subgoals
   pub many : targets p ≤ 512
-  pub target : length (p .target) ≡ 9 * targets p
+  pub target : length (p .target) ≡ subgoalSize * targets p
   -- an arity is at most 8
-  pub widths : (i : ℕ) → widthOf p i ≤ 8
+  pub widths : (i : ℕ) → widthOf p i ≤ mostArity
   -- rows are members of sets in one word
-  pub rows : (k : ℕ) → rowOf p k < 64
+  pub rows : (k : ℕ) → rowOf p k < mostRows
   -- 0 is no code of a target, since a slot that holds 0 is not bound
-  pub solid : (k a : ℕ) → k < targets p → a < 8 → targetTerm p k a ≡ 0 → ⊥
+  pub solid : (k a : ℕ) → k < targets p → a < mostArity → targetTerm p k a ≡ 0 → ⊥
 
 -- What a source term becomes, where v says the slots' values.
 unfoldable pub valueOf : (ℕ → ℕ) → ℕ → ℕ
-valueOf v x = cond (ltb x 64) (v x) x
+valueOf v x = cond (ltb x mostSlots) (v x) x
 
 -- Under v the source subgoal i becomes the target k: the same relation, and term by term.
 pub record Agrees (p : Task) (v : ℕ → ℕ) (i k : ℕ) : Type 0 where
@@ -79,7 +83,7 @@ pub record Agrees (p : Task) (v : ℕ → ℕ) (i k : ℕ) : Type 0 where
 -- "its other variables fresh for each use": v serves the source subgoal i and w the next. They are the same, except that a new use has values of its own.
 pub record Linked (p : Task) (i : ℕ) (v w : ℕ → ℕ) : Type 0 where
   pub stays : lastOf p i ≡ 0 → (x : ℕ) → w x ≡ v x
-  pub shared : (x : ℕ) → x < 32 → w x ≡ v x
+  pub shared : (x : ℕ) → x < variables → w x ≡ v x
 
 -- l has, for each of the n source subgoals from at on, the target that it becomes; v serves the first of them.
 pub data Completes (p : Task) : ℕ → ℕ → (ℕ → ℕ) → List ℕ → Type 0 where

@@ -2,6 +2,7 @@
 ghost use mathlib.Core.Path.{_≡_};
 ghost use Prim.Native.Nat.{_<_};
 ghost use lib.ListN.{length};
+ghost use Rattle.codes.specs.Code.{mostSlots};
 ghost use Rattle.task.specs.Task.{posed, Sized};
 ghost use Rattle.task.specs.Follows.{Follows};
 ghost use Rattle.task.specs.Leads.{Leads};
@@ -33,7 +34,7 @@ fn step(
 ) -> bool
     requires { ⌜ Sized (posed (now source) (now widths) (now lasts) (now target) (now own)) ⌝ }
     requires { ⌜ i < length (now widths) ⌝ }
-    requires { ⌜ length (now g) ≡ 64 ⌝ }
+    requires { ⌜ length (now g) ≡ mostSlots ⌝ }
     ensures { λ r. ⌜ Leads (posed (now (source .entry)) (now (widths .entry)) (now (lasts .entry)) (now (target .entry)) (now (own .entry))) (now (g .entry)) i k r (now (g .exit)) ⌝ }
 {
     if own.len() <= k {

@@ -3,6 +3,8 @@ ghost use mathlib.Core.Path.{_≡_};
 ghost use Prim.Native.Nat.{_<_, _≤_};
 ghost use lib.Dec.{eqb};
 ghost use lib.ListN.{length};
+ghost use Rattle.spec.specs.BookLayout.{mostArity};
+ghost use Rattle.codes.specs.Code.{mostSlots};
 ghost use Rattle.task.specs.Terms.{stood, noting, Opened};
 use codes::SLOTS;
 use codes::UNIT;
@@ -23,8 +25,8 @@ pub fn alike(x: u64, y: u64) -> bool
 
 // How many of a subgoal's terms count.
 pub fn width(x: u8) -> usize
-    requires { ⌜ x ≤ 8 ⌝ }
-    ensures { λ r. ⌜ (r ≡ x) × (r ≤ 8) ⌝ }
+    requires { ⌜ x ≤ mostArity ⌝ }
+    ensures { λ r. ⌜ (r ≡ x) × (r ≤ mostArity) ⌝ }
 {
     x as usize
 }
@@ -53,7 +55,7 @@ pub fn noted(set: u64, x: u64) -> u64
 // Where a use has ended, the next one's own variables are not bound.
 // (That a lent array is as long as its type says is no fact that the kit gives, so it is asked for.)
 pub fn opened(g: &mut [u64; SLOTS], last: u8)
-    requires { ⌜ length (now g) ≡ 64 ⌝ }
+    requires { ⌜ length (now g) ≡ mostSlots ⌝ }
     ensures { λ _. ⌜ Opened last (now (g .entry)) (now (g .exit)) ⌝ }
 {
     if last == 0 {

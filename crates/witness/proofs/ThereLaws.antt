@@ -6,22 +6,20 @@ use Prim.Native.Nat.{ℕ, suc, _+_, _*_, _-_, _<_, _≤_}
 use native.Mathlib.Omega.{arith}
 use native.Mathlib.Decide.{decLt}
 use lib.Dec.{ltb}
-use lib.ListN.{length, getD, take, length-map, List·getD-eq-default}
+use lib.ListN.{length, getD, take, List·getD-eq-default}
 use lib.Seq.{sets}
 use Rattle.spec.specs.Words.{Term, Subgoal}
 use Rattle.spec.specs.Summaries.{Own, uses, joined}
 use Rattle.spec.specs.Book.{Book, admittedOf}
-use Rattle.outcomes.proofs.Bounds.{book-bounds}
+use Rattle.spec.specs.BookLayout.{questionMost}
 use Rattle.book_codes.specs.Question.{QuestionSource, QuestionBound}
 use Rattle.book_codes.specs.UsesLent.{InnerUsesOf}
 use Rattle.book_codes.proofs.Read.{insides-long, insides-at}
-use Rattle.book_codes.proofs.Lent.{source-widths}
 use Rattle.book_codes.proofs.ThereTask as task
 use Rattle.placing.specs.FirstPlaces.{FirstPlaces}
 use Rattle.placing.specs.declared.Places.{Places}
 use Rattle.search_meaning.specs.Uses.{useAt, withinAt, pairsOf}
 use Rattle.search_meaning.proofs.Owners.{owners-at}
-use Rattle.search_meaning.proofs.InUse.{uses-few}
 use Rattle.witness.specs.WitnessBytes.{pairBytes, PairsNeeds}
 use Rattle.witness.specs.ThereTold.{Serves, ThereOf}
 use Rattle.witness.proofs.Found.{FoundAt, found-at}
@@ -59,62 +57,47 @@ module _ {book target own inner : List ℕ} (b : Book) (l : List (Subgoal (Term 
   abbrev ls : List (List (Subgoal (Term (Own ℕ))))
   ls = uses (admittedOf b) 0 l
 
-  owned : length own ≡ length (joined ls)
-  owned = task.owned b l (o .targets) source heads
-
-  few-goals : n ≤ 12
-  few-goals = task.few-goals b l (o .targets) source heads
-
-  own-small : (k : ℕ) → getD own k 0 < 64
-  own-small = task.own-small b l (o .targets) source heads
-
   module _ (serves : Serves b l) {r : Places} (f : FirstPlaces (task.lent b l (o .targets) source heads) bound r) where
     pub there-found : FoundAt (task.lent b l (o .targets) source heads) bound r
     there-found = found-at f (task.there-places b l (o .targets) source heads (serves .there))
 
-    goals-are : length (take n new) ≡ n
-    goals-are = ap length (source-widths b (o .targets .list .sound) source) ∙ length-map (b .question .body) _ ∙ sym (source .count b (o .targets .list .sound))
-
     place-within : (i : ℕ) → i < n → (getD (r .ks) i 0 ≡ getD (there-found .places) i 0) × (getD (there-found .places) i 0 < length own)
-    place-within i h = let h′ : i < length (take n new) = rw goals-are h in (there-found .reads i h′, there-found .first .holds .lands i h′ .within)
+    place-within i h = let h′ : i < length (take n new) = rw (task.goals-are b l (o .targets) source heads) h in (there-found .reads i h′, there-found .first .holds .lands i h′ .within)
 
     insides-same : length inner ≡ length own
-    insides-same = ap length (o .inners) ∙ insides-long ls ∙ sym owned
-
-    all-few : length (joined ls) ≤ 96
-    all-few = let f = o .targets .list .few in omega (arith, uses-few (b .arities) (admittedOf b) (b .question) (book-bounds b (o .targets .list .sound .value)) 0 l (o .targets .list .within))
+    insides-same = ap length (o .inners) ∙ insides-long ls ∙ sym (task.owned b l (o .targets) source heads)
 
     inner-at : (k : ℕ) → k < length (joined ls) → getD inner k 0 ≡ withinAt ls k
     inner-at k h = ap (λ m. getD m k 0) (o .inners) ∙ insides-at ls k h
 
     inner-small : (k : ℕ) → getD inner k 0 < 255
     inner-small k = elim (decLt k (length (joined ls))) [
-      | yes h ↦ omega (arith, inner-at k h, within-most ls k, all-few)
-      | no h ↦ omega (arith, List·getD-eq-default inner 0 {n = k} (omega (arith, owned, insides-same)))
+      | yes h ↦ omega (arith, inner-at k h, within-most ls k, task.all-few b l (o .targets) source heads)
+      | no h ↦ omega (arith, List·getD-eq-default inner 0 {n = k} (omega (arith, task.owned b l (o .targets) source heads, insides-same)))
     ]
 
-    pub there-paired : {out : List ℕ} → 24 ≤ length out → PairsNeeds out (r .ks) own inner n
+    pub there-paired : {out : List ℕ} → 2 * questionMost ≤ length out → PairsNeeds out (r .ks) own inner n
     there-paired room = record {
-      room = omega (arith, few-goals);
-      few = omega (arith, few-goals);
+      room = omega (arith, task.few-goals b l (o .targets) source heads);
+      few = omega (arith, task.few-goals b l (o .targets) source heads);
       targets = λ i h. let p = place-within i h in (omega (arith, p .0, p .1), omega (arith, p .0, p .1, insides-same));
-      bytes = λ k. (omega (arith, own-small k), inner-small k);
+      bytes = λ k. (omega (arith, task.own-small b l (o .targets) source heads k), inner-small k);
     }
 
     places-long : length (there-found .places) ≡ n
-    places-long = there-found .first .holds .long ∙ goals-are
+    places-long = there-found .first .holds .long ∙ task.goals-are b l (o .targets) source heads
 
     written-are : pairBytes (r .ks) own inner 0 n ≡ pairsOf ls (there-found .places)
     written-are =
         ap (pairBytes (r .ks) own inner 0) (sym places-long)
         ∙ pairs-written ls (r .ks) own inner (there-found .places) 0 (λ k h. (ap (λ m. getD m k 0) (o .targets .owns) ∙ omega (arith, owners-at 0 ls k h), inner-at k h))
-        (λ j h. let p = place-within j (omega (arith, places-long)) in let z : 0 + j ≡ j = omega arith in (ap (λ i. getD (r .ks) i 0) z ∙ p .0, omega (arith, p .1, owned)))
+        (λ j h. let p = place-within j (omega (arith, places-long)) in let z : 0 + j ≡ j = omega arith in (ap (λ i. getD (r .ks) i 0) z ∙ p .0, omega (arith, p .1, task.owned b l (o .targets) source heads)))
 
     pub there-of : {out out′ : List ℕ} → out′ ≡ sets out 0 (pairBytes (r .ks) own inner 0 n) → ThereOf b l out out′ (2 * n)
     there-of {out} e = record {
       bytes = pairsOf ls (there-found .places);
       first = task.there-firsts b l (o .targets) source heads (there-found .places) (there-found .first);
       long = omega (arith, pairs-long ls (there-found .places), places-long);
-      few = omega (arith, few-goals);
+      few = omega (arith, task.few-goals b l (o .targets) source heads);
       written = e ∙ ap (sets out 0) written-are;
     }

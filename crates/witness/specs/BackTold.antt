@@ -8,6 +8,7 @@ use Rattle.spec.specs.Words.{Term, Subgoal}
 use Rattle.spec.specs.Summaries.{rewriting}
 use Rattle.spec.specs.Answer.{FirstBack}
 use Rattle.spec.specs.Book.{Book, admittedOf}
+use Rattle.codes.specs.Code.{usesGoals}
 use Rattle.book_codes.specs.FewRows.{FewRowsOf}
 use Rattle.witness.specs.ThereTold.{Serves}
 
@@ -16,7 +17,7 @@ pub record BackOf (b : Book) (l : List (Subgoal (Term ℕ))) (at : ℕ) (before 
   pub bytes : List ℕ
   pub first : FirstBack (admittedOf b) (b .question) (rewriting (b .question) l) bytes
   pub long : n ≡ length bytes
-  pub few : n ≤ 96
+  pub few : n ≤ usesGoals
   pub written : after ≡ sets before at bytes
 
 pub record BackSays (book rows : List ℕ) (k at : ℕ) (before after : List ℕ) (n : ℕ) : Type 0 where

@@ -1,6 +1,7 @@
 // "per rewriting subgoal and per subgoal of its summary, one byte: question subgoal".
 ghost use Prim.Native.Nat.{_+_, _≤_};
 ghost use lib.ListN.{length};
+ghost use Rattle.codes.specs.Code.{usesGoals};
 ghost use Rattle.witness.specs.ThereTold.{WitnessNeeds};
 ghost use Rattle.witness.specs.BackTold.{BackSays};
 ghost use Rattle.witness.specs.BackSteps.{BackNeeds, BackFromSays};
@@ -24,7 +25,7 @@ fn back_from(
     out: &mut [u8],
     at: usize,
 ) -> usize
-    requires { ⌜ BackNeeds (now book) (now source) (now widths) (now lasts) × (at + 96 ≤ length (now out)) ⌝ }
+    requires { ⌜ BackNeeds (now book) (now source) (now widths) (now lasts) × (at + usesGoals ≤ length (now out)) ⌝ }
     ensures { λ r. ⌜ BackFromSays (now (book .entry)) (now (source .entry)) (now (widths .entry)) (now (lasts .entry)) at (now (out .entry)) (now (out .exit)) r ⌝ }
 {
     let mut target = [0u64; QUESTION_CODES];
@@ -46,7 +47,7 @@ fn back_from(
 
 // The second part of the witness of k rows that are equivalent to the question, from `at` on. Returns its length.
 pub fn put_back(book: &[u8], rows: &[u64], k: usize, out: &mut [u8], at: usize) -> usize
-    requires { ⌜ WitnessNeeds (now book) (now rows) k × (at + 96 ≤ length (now out)) ⌝ }
+    requires { ⌜ WitnessNeeds (now book) (now rows) k × (at + usesGoals ≤ length (now out)) ⌝ }
     ensures { λ r. ⌜ BackSays (now (book .entry)) (now (rows .entry)) k at (now (out .entry)) (now (out .exit)) r ⌝ }
 {
     let mut source = [0u64; USES_CODES];

@@ -1,11 +1,13 @@
 // "per rewriting subgoal and per subgoal of its summary, one byte: question subgoal".
 ghost use Prim.Native.Nat.{_≤_};
 ghost use lib.ListN.{length};
+ghost use Rattle.codes.specs.Code.{usesGoals};
 ghost use Rattle.book_codes.specs.FewRows.{FewRows};
 ghost use Rattle.book_codes.specs.UsesLent.{SourceUses};
 ghost use Rattle.witness_check.specs.WayBack.Confirms.{BackCheckSays};
 ghost use Rattle.witness_check.specs.WayBack.Places.{Before, BytePlaces};
 ghost use Rattle.witness_check.specs.WayBack.Steps.{BackAlongSays};
+use crate::NOWHERE;
 use book_codes::question::question_bindings;
 use book_codes::question::question_target;
 use book_codes::uses::expand_back;
@@ -21,14 +23,14 @@ fn before(x: u8) -> u16
     ensures { λ r. ⌜ Before x r ⌝ }
 {
     if x < 1 {
-        return 65535;
+        return NOWHERE;
     }
     (x - 1) as u16
 }
 
 // The places that the bytes name.
 fn byte_places(witness: &[u8]) -> [u16; USES_GOALS]
-    requires { ⌜ length (now witness) ≤ 96 ⌝ }
+    requires { ⌜ length (now witness) ≤ usesGoals ⌝ }
     ensures { λ r. ⌜ BytePlaces (now (witness .entry)) (length (now (witness .entry))) r ⌝ }
 {
     let mut ks = [0u16; USES_GOALS];

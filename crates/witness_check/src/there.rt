@@ -2,10 +2,12 @@
 // "per question subgoal, two bytes: rewriting subgoal and subgoal within that summary".
 ghost use Prim.Native.Nat.{_*_, _<_, _≤_};
 ghost use lib.ListN.{length};
+ghost use Rattle.spec.specs.BookLayout.{questionMost};
 ghost use Rattle.book_codes.specs.FewRows.{FewRows};
 ghost use Rattle.witness_check.specs.WayThere.Confirms.{ThereCheckSays};
 ghost use Rattle.witness_check.specs.WayThere.Places.{PlaceOf, PairPlaces};
 ghost use Rattle.witness_check.specs.WayThere.Steps.{ThereAlongNeeds, ThereAlongSays};
+use crate::NOWHERE;
 use book_codes::question::question_bindings;
 use book_codes::question::question_source;
 use book_codes::uses::expand;
@@ -20,25 +22,25 @@ use task::pass::wide;
 
 // The place among all subgoals of a pair of bytes, or one that is past them all. Between the beginnings of two uses lies the first one's own.
 fn place_of(starts: &[u16; QUESTION_GOALS + 1], k: usize, row: u8, inner: u8) -> u16
-    requires { ⌜ k ≤ 12 ⌝ }
+    requires { ⌜ k ≤ questionMost ⌝ }
     ensures { λ r. ⌜ PlaceOf (now (starts .entry)) k row inner r ⌝ }
 {
     let of = row as usize;
     let within = inner as usize;
     if of < 1 {
-        return 65535;
+        return NOWHERE;
     }
     if k < of {
-        return 65535;
+        return NOWHERE;
     }
     if within < 1 {
-        return 65535;
+        return NOWHERE;
     }
     let place = wide(starts[of - 1]) + (within - 1);
     if place < wide(starts[of]) {
         return place as u16;
     }
-    65535
+    NOWHERE
 }
 
 // The places of n pairs.
@@ -48,7 +50,7 @@ fn pair_places(
     k: usize,
     n: usize,
 ) -> [u16; USES_GOALS]
-    requires { ⌜ (k ≤ 12) × (n ≤ 12) × (2 * n ≤ length (now witness)) ⌝ }
+    requires { ⌜ (k ≤ questionMost) × (n ≤ questionMost) × (2 * n ≤ length (now witness)) ⌝ }
     ensures { λ r. ⌜ PairPlaces (now (witness .entry)) (now (starts .entry)) k n r ⌝ }
 {
     let mut ks = [0u16; USES_GOALS];

@@ -5,7 +5,6 @@ use mathlib.Core.Option.{Option, some, none}
 use mathlib.Core.List.{List}
 use Prim.Native.Nat.{ℕ, zero, suc, _+_, _<_, _≤_}
 use native.Mathlib.Omega.{arith}
-use native.Mathlib.Decide.{ℕ-discrete}
 use lib.Dec.{T, not-T, leb, leb→le, nleb→lt, ltb, ltb→lt, lt→ltb}
 use Rattle.spec.specs.Words.{Rule}
 use Rattle.spec.specs.Numbers.{Bytes}
@@ -18,7 +17,7 @@ use Rattle.spec.proofs.Decided.Safety.{safe, safe-sound, safe-complete}
 use Rattle.spec.proofs.Bytes.RuleReading.{Read, got, bad, readRule}
 use Rattle.spec.proofs.Bytes.RuleLaws.{layout-read, no-layout}
 use Rattle.spec.proofs.Bytes.BookUnique.{reads-unique}
-use Rattle.spec.proofs.Bytes.Refused.{part-bytes}
+use Rattle.spec.proofs.Bytes.Refused.{part-bytes, one-more-sound}
 use Rattle.spec.proofs.Bytes.SoundTest.{distinct, distinct-sound, distinct-complete}
 use Rattle.spec.proofs.Bytes.ContentsTest.{sized, sized-sound, sized-not, noGaps, gaps-sound, gaps-complete, rightRelations, right-sound, right-complete}
 
@@ -96,11 +95,7 @@ module _ (book : List ℕ) where
       where
         go : (((j : ℕ) → 1 ≤ j → j < suc i → SoundEntry book j) → Says (entriesTried left (suc i))) → (o : Option ℕ) → EntrySays i o → Says (orFurther i o (entriesTried left (suc i)))
         go further (some k) r = r
-        go further none s = further (λ j l h. at j l h (ℕ-discrete j i))
-          where
-            at : (j : ℕ) → 1 ≤ j → j < suc i → Dec (j ≡ i) → SoundEntry book j
-            at j l h (yes same) = rw same s
-            at j l h (no other) = before j l (omega arith)
+        go further none s = further (one-more-sound before s)
 
     pub refusal-says : Says refusal
     refusal-says = picked Says (sized book) from3 (some (ofBook 2)) past-2 (λ n. two (sized-not book n))

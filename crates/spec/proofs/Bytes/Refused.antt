@@ -29,6 +29,10 @@ pub part-bytes : (book : List ℕ) → Bytes book → (i : ℕ) → Bytes (partA
 unfolding partAt
 part-bytes book h i = bytes-take (lengthAt book i) (drop (offsetAt book i) book) (bytes-drop (offsetAt book i) book h)
 
+-- sound entries before i, and entry i
+pub one-more-sound : {book : List ℕ} {i : ℕ} → ((j : ℕ) → 1 ≤ j → j < i → SoundEntry book j) → SoundEntry book i → (j : ℕ) → 1 ≤ j → j < suc i → SoundEntry book j
+one-more-sound {i = i} before s j l h = elim (ℕ-discrete j i) [ yes same ↦ rw same s | no other ↦ before j l (omega arith) ]
+
 module _ (book : List ℕ) (bytes : Bytes book) where
   -- "entry by entry 6, 7, 8"
   module _ (i : ℕ) (reached : Reached book i) where
@@ -62,11 +66,7 @@ module _ (book : List ℕ) (bytes : Bytes book) where
     where
       go : (((j : ℕ) → 1 ≤ j → j < suc i → SoundEntry book j) → Passes book ⊎ SomeRefusal book) → SoundEntry book i ⊎ SomeRefusal book → Passes book ⊎ SomeRefusal book
       go further (inr x) = inr x
-      go further (inl s) = further (λ j l h. at j l h (ℕ-discrete j i))
-        where
-          at : (j : ℕ) → 1 ≤ j → j < suc i → Dec (j ≡ i) → SoundEntry book j
-          at j l h (yes same) = rw same s
-          at j l h (no other) = before j l (omega arith)
+      go further (inl s) = further (one-more-sound before s)
 
   size-decided : Dec (Fault2 book)
   size-decided = go (decLt (length book) 2) (decLt longest (length book))

@@ -26,12 +26,12 @@ summary-within s n r e = go (place s n) refl e
     go none p q = absurd (Option·none-ne-some r q)
     go (some o) p q = place-within s n o p
 
-module _ (s : Summaries) (q : Rule ℕ) where
-  abbrev pub rowOf : ℕ → List (Term ℕ) → Subgoal (Term ℕ)
-  rowOf n row = record { relation = n; terms = row }
+abbrev pub asRow : ℕ → List (Term ℕ) → Subgoal (Term ℕ)
+asRow n row = record { relation = n; terms = row }
 
+module _ (s : Summaries) (q : Rule ℕ) where
   abbrev rowsBy : ℕ → Rule ℕ → List (Subgoal (Term ℕ))
-  rowsBy n r = map (rowOf n) (yielded eqNumber (eqTerm eqNumber) con r (q .body))
+  rowsBy n r = map (asRow n) (yielded eqNumber (eqTerm eqNumber) con r (q .body))
 
   -- those of one summary, in any order
   abbrev pub rowsOf : ℕ → List (Subgoal (Term ℕ))
@@ -44,13 +44,13 @@ module _ (s : Summaries) (q : Rule ℕ) where
   allRows-sound g m =
       let n = gather-out rowsOf (counted 1 (length s)) (sorted-out rowOrder (gather rowsOf (counted 1 (length s))) g m) in
       let r = from-out (rowsBy (n .0)) (summary s (n .0)) (n .2) in
-      let w = Memᴰ·of-map (rowOf (n .0)) (yielded eqNumber (eqTerm eqNumber) con (r .0) (q .body)) (r .2) in
+      let w = Memᴰ·of-map (asRow (n .0)) (yielded eqNumber (eqTerm eqNumber) con (r .0) (q .body)) (r .2) in
       subst (SummaryRow s q) (w .2) record { rule = r .0; admitted = r .1; yields = yielded-sound eqNumber (eqTerm eqNumber) con (r .0) (q .body) (w .0) (w .1) }
 
   pub allRows-complete : AllSafe s → (g : Subgoal (Term ℕ)) → SummaryRow s q g → g ∈ allRows
   allRows-complete safe g y =
       let w = summary-within s (g .relation) (y .rule) (y .admitted) in
-      let i = Memᴰ·map (rowOf (g .relation)) (yielded-complete eqNumber (eqTerm eqNumber) con (y .rule) (q .body) (safe (g .relation) (y .rule) (y .admitted)) (g .terms) (y .yields)) in
+      let i = Memᴰ·map (asRow (g .relation)) (yielded-complete eqNumber (eqTerm eqNumber) con (y .rule) (q .body) (safe (g .relation) (y .rule) (y .admitted)) (g .terms) (y .yields)) in
       let j : g ∈ rowsOf (g .relation) = subst (λ o. g ∈ from (rowsBy (g .relation)) o) (sym (y .admitted)) i in
       sorted-in rowOrder (gather rowsOf (counted 1 (length s))) g (gather-in rowsOf (counted 1 (length s)) (counted-in 1 (length s) (g .relation) (w .0) (omega arith)) j)
 

@@ -11,7 +11,7 @@ use Rattle.spec.specs.Refresh.{admitted}
 use Rattle.spec.specs.Book.{Book, admittedOf}
 use Rattle.spec.specs.BookLayout.{entries, contentsEnd, bookBytes, SoundBook}
 use Rattle.spec.specs.Refusals.{ofBook, two}
-use Rattle.spec.specs.Table.{answerRoom, witnessRoom, mostRows, Fault1, Fault9, RewriterRefusal, one, read, nine}
+use Rattle.spec.specs.Table.{mostRows, Fault1, Fault9, RewriterRefusal, one, read, nine}
 use Rattle.spec.specs.Given.{Given}
 use Rattle.spec.proofs.Decided.Rows.{allRows, allRows-sound, allRows-ascending}
 use Rattle.spec.proofs.Decided.RowCount.{rows-within}
@@ -23,15 +23,12 @@ use Rattle.spec.proofs.Bytes.SoundTest.{book-sound}
 
 -- "answer area below 534 bytes, or witness area below 120"
 pub room : Fault1 534 120 → ⊥
-unfolding answerRoom witnessRoom
 room = ⊎-elim (λ h. omega arith) (λ h. omega arith)
 
 pub short-answer : Fault1 533 120
-unfolding answerRoom
 short-answer = inl (lit< tt)
 
 short-witness : Fault1 534 119
-unfolding witnessRoom
 short-witness = inr (lit< tt)
 
 -- "Order: 1": before a book of one byte is refused with 2

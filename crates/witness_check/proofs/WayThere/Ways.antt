@@ -5,24 +5,21 @@ use mathlib.Core.Logic.{_↔_}
 use mathlib.Core.List.{List}
 use Prim.Native.Nat.{ℕ, _+_, _*_, _<_, _≤_}
 use native.Mathlib.Omega.{arith}
-use lib.ListN.{length, getD, take, length-map}
+use lib.ListN.{length, getD, take}
 use lib.Seq.{length-take-le, getD-take}
 use Rattle.spec.specs.Words.{Term, Subgoal}
 use Rattle.spec.specs.Summaries.{Own, rewriting, uses, joined}
 use Rattle.spec.specs.Answer.{There}
 use Rattle.spec.specs.Book.{Book, admittedOf}
 use Rattle.outcomes.proofs.Rooms.{there-long}
-use Rattle.outcomes.proofs.Bounds.{book-bounds}
 use Rattle.book_codes.specs.Insides.{starts}
 use Rattle.book_codes.specs.Question.{SomeSound, QuestionSource, QuestionBound}
-use Rattle.book_codes.proofs.Lent.{goals-few, source-widths}
 use Rattle.book_codes.proofs.ThereTask as there
 use Rattle.bits.proofs.Laws.{exactly-no}
 use Rattle.task.specs.Mapped.{Mapped}
 use Rattle.task.specs.Follows.{Follows}
 use Rattle.search_meaning.specs.Uses.{pairsOf}
-use Rattle.search_meaning.proofs.InUse.{uses-few}
-use Rattle.search_meaning.proofs.Owners.{owners-long, uses-long}
+use Rattle.search_meaning.proofs.Owners.{uses-long}
 use Rattle.search_meaning.proofs.Pairs.{pairs-places}
 use Rattle.witness_check.specs.WayThere.Places.{nowhere, PlaceOf, PairPlaces}
 use Rattle.witness_check.specs.WayThere.Steps.{BegunUsesOf, ThereAlongNeeds}
@@ -45,14 +42,8 @@ module _ {book target own begins : List ℕ} {k : ℕ} (b : Book) (l : List (Sub
   abbrev Maps : List ℕ → Type 0
   Maps = Mapped (there.lent b l (o .targets) source heads) bound
 
-  goals-are : length (take n new) ≡ n
-  goals-are = ap length (source-widths b (o .targets .list .sound) source) ∙ length-map (b .question .body) _ ∙ sym (source .count b (o .targets .list .sound))
-
-  owned : length own ≡ length (joined ls)
-  owned = ap length (o .targets .owns) ∙ owners-long 0 ls
-
   few : length (joined ls) ≤ nowhere
-  few = let f = o .targets .list .few in omega (arith, uses-few (b .arities) (admittedOf b) (b .question) (book-bounds b (o .targets .list .sound .value)) 0 l (o .targets .list .within))
+  few = omega (arith, there.all-few b l (o .targets) source heads)
 
   count : length ls ≡ k
   count = uses-long (admittedOf b) 0 l ∙ o .count
@@ -61,7 +52,7 @@ module _ {book target own begins : List ℕ} {k : ℕ} (b : Book) (l : List (Sub
   reads u h = sym (getD-take (k + 1) begins u 0 (omega (arith, count))) ∙ ap (λ m. getD m u 0) (o .begin)
 
   within : (places : List ℕ) → Maps places → (i : ℕ) → i < length places → getD places i 0 < length (joined ls)
-  within places m i h = omega (arith, m .lands i (omega (arith, m .long)) .within, owned)
+  within places m i h = omega (arith, m .lands i (omega (arith, m .long)) .within, there.owned b l (o .targets) source heads)
 
   -- bytes that are the first part name some mapping's places
   named : (witness : List ℕ) → Goes witness → (places : List ℕ) × (pairsOf ls places ≡ witness) × Maps places
@@ -71,7 +62,7 @@ module _ {book target own begins : List ℕ} {k : ℕ} (b : Book) (l : List (Sub
 
   module _ {witness ks : List ℕ} {r : Bool} (f : Follows (there.lent b l (o .targets) source heads) bound ks r) (p : PairPlaces witness begins k n ks) (long : length witness ≡ 2 * n) where
     taken : length (take n ks) ≡ n
-    taken = length-take-le n ks (omega (arith, p .long, goals-few b (o .targets .list .sound) source))
+    taken = length-take-le n ks (omega (arith, p .long, there.few-goals b l (o .targets) source heads))
 
     pointed : (i : ℕ) → i < length (take n ks) → PlaceOf begins (length ls) (getD witness (2 * i) 0) (getD witness (2 * i + 1) 0) (getD (take n ks) i 0)
     pointed i h =
@@ -80,14 +71,14 @@ module _ {book target own begins : List ℕ} {k : ℕ} (b : Book) (l : List (Sub
         (subst (PlaceOf begins k (getD witness (2 * i) 0) (getD witness (2 * i + 1) 0)) (sym (getD-take n ks i 0 less)) (p .at i less))
 
     exactly : (r ≡ true) ↔ Maps (take n ks)
-    exactly = subst (λ m. (r ≡ true) ↔ Maps (take m ks)) goals-are (f .exactly)
+    exactly = subst (λ m. (r ≡ true) ↔ Maps (take m ks)) (there.goals-are b l (o .targets) source heads) (f .exactly)
 
     pub there-followed : (r ≡ true) ↔ Goes witness
     there-followed = (
       λ e. let m = exactly .0 e in
           subst Goes (pairs-named ls begins reads witness (take n ks) (omega (arith, taken)) few (within (take n ks) m) pointed) (there.there-mapped b l (o .targets) source heads (take n ks) .0 m),
       λ t. let w = named witness t in
-          let same = named-pairs ls begins reads (w .0) (take n ks) (omega (arith, w .2 .long, goals-are, taken)) (within (w .0) (w .2)) (λ i h. subst (λ x. PlaceOf begins (length ls) (getD x (2 * i) 0) (getD x (2 * i + 1) 0) (getD (take n ks) i 0)) (sym (w .1)) (pointed i h)) in
+          let same = named-pairs ls begins reads (w .0) (take n ks) (omega (arith, w .2 .long, there.goals-are b l (o .targets) source heads, taken)) (within (w .0) (w .2)) (λ i h. subst (λ x. PlaceOf begins (length ls) (getD x (2 * i) 0) (getD x (2 * i + 1) 0) (getD (take n ks) i 0)) (sym (w .1)) (pointed i h)) in
           exactly .1 (subst Maps same (w .2)),
     )
 

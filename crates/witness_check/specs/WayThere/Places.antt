@@ -3,6 +3,7 @@ use mathlib.Core.Path.{_≡_}
 use mathlib.Core.List.{List}
 use Prim.Native.Nat.{ℕ, suc, _+_, _*_, _<_}
 use lib.ListN.{length, getD}
+use Rattle.codes.specs.Code.{usesGoals}
 
 -- past every target
 abbrev pub nowhere : ℕ
@@ -21,5 +22,5 @@ pub record PlaceOf (starts : List ℕ) (k row inner place : ℕ) : Type 0 where
 
 -- of the first n pairs
 pub record PairPlaces (bytes starts : List ℕ) (k n : ℕ) (ks : List ℕ) : Type 0 where
-  pub long : length ks ≡ 96
+  pub long : length ks ≡ usesGoals
   pub at : (i : ℕ) → i < n → PlaceOf starts k (getD bytes (2 * i) 0) (getD bytes (2 * i + 1) 0) (getD ks i 0)
