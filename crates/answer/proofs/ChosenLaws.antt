@@ -10,10 +10,10 @@ use Rattle.spec.specs.Summaries.{SummaryRow}
 use Rattle.spec.specs.Book.{Book, admittedOf}
 use Rattle.spec.specs.BookLayout.{SoundBook}
 use Rattle.spec.specs.Table.{Fault9}
-use Rattle.spec.proofs.Decided.Rows.{allRows, allRows-sound}
+use Rattle.spec.proofs.Decided.Rows.{RowList, allRows, allRows-sound}
 use Rattle.spec.proofs.Lists.At.{getD-in}
 use Rattle.spec.proofs.Lists.Zeros.{zero-after}
-use Rattle.choice_theory.specs.Numbered.{RowList, nothing, rowAt, rowsAt}
+use Rattle.choice_theory.specs.Numbered.{nothing, rowAt, rowsAt}
 use Rattle.outcomes.proofs.Bounds.{book-bounds}
 use Rattle.outcomes.proofs.Grants.{value-safe}
 use Rattle.outcomes.proofs.Total.{fault-9}

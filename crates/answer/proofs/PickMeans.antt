@@ -7,7 +7,8 @@ use lib.ListN.{length, getD, take, drop}
 use lib.Seq.{drop-drop, drop-append-seam, take-append-le, take-length, getD-drop, drop-cons}
 use borrow.Author.Tests.{eq-eqb, ne-eqb}
 use Rattle.spec.specs.Words.{_∈_, Term, Subgoal}
-use Rattle.choice_theory.specs.Numbered.{RowList, rowAt, rowsAt}
+use Rattle.spec.proofs.Decided.Rows.{RowList}
+use Rattle.choice_theory.specs.Numbered.{rowAt, rowsAt}
 use Rattle.codes.specs.Code.{termCode, padded, subgoalCodes, codesOf, widthsOf}
 use Rattle.codes.proofs.Padded.{padded-length, code-no-end}
 use Rattle.answer.specs.Picked.{widthIn, pickedCodes, pickedWidths}

@@ -6,7 +6,8 @@ use lib.ListN.{length}
 use Rattle.spec.specs.Words.{_∈_, Rule}
 use Rattle.spec.specs.Summaries.{Summaries}
 use Rattle.spec.proofs.Lists.Rising.{Rising}
-use Rattle.choice_theory.specs.Numbered.{RowList, InRowList, WorksOn}
+use Rattle.spec.proofs.Decided.Rows.{RowList}
+use Rattle.choice_theory.specs.Numbered.{InRowList, WorksOn}
 
 -- The rows p, and at most b more of the rows from `from` on, work.
 pub record Can (s : Summaries) (q : Rule ℕ) (rows : RowList) (p : List ℕ) (from b : ℕ) : Type 0 where

@@ -13,9 +13,10 @@ use Rattle.spec.specs.Words.{_∈_, Term, var, con, Subgoal, Rule, becomes, eac
 use Rattle.spec.specs.Summaries.{Summaries, Own, fresh, kept, inPlace}
 use Rattle.spec.proofs.Lists.Tests.{passes, fails, any, any-sound, any-complete}
 use Rattle.spec.proofs.Lists.At.{getD-in, in-getD, without, without-in, without-out, without-few}
+use Rattle.spec.proofs.Decided.Rows.{RowList}
 use Rattle.containment.proofs.Carry.{subgoal-same}
 use Rattle.containment.proofs.Expand.{extended}
-use Rattle.choice_theory.specs.Numbered.{RowList, nothing, rowAt, InChosenUse, WorksOn}
+use Rattle.choice_theory.specs.Numbered.{nothing, rowAt, InChosenUse, WorksOn}
 use Rattle.choice_theory.specs.Moved.{same-use}
 use Rattle.choice_theory.specs.Works.{moved}
 use Rattle.choice_theory.specs.Can.{CanBy}

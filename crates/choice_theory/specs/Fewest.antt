@@ -12,8 +12,9 @@ use Rattle.spec.specs.Order.{RowBefore}
 use Rattle.spec.specs.Answer.{Rewrites}
 use Rattle.spec.proofs.Lists.Enumerate.{Enumerates}
 use Rattle.spec.proofs.Lists.Counted.{counted, counted-in, counted-out, counted-rising}
+use Rattle.spec.proofs.Decided.Rows.{RowList}
 use Rattle.containment.proofs.Normal.{shorten}
-use Rattle.choice_theory.specs.Numbered.{RowList, rowAt, WorksOn}
+use Rattle.choice_theory.specs.Numbered.{rowAt, WorksOn}
 use Rattle.choice_theory.specs.Works.{works-more}
 use Rattle.choice_theory.specs.Rewritten.{works-rewrites, rewrites-numbers}
 use Rattle.choice_theory.specs.Can.{Any, Can}

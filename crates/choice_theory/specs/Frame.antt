@@ -12,11 +12,12 @@ use Rattle.spec.specs.Answer.{Rewrites, Answer}
 use Rattle.spec.proofs.Lists.Strict.{numbers-compare}
 use Rattle.spec.proofs.Lists.Rising.{Rising, rising-append, rising-right}
 use Rattle.spec.proofs.Lists.Enumerate.{Enumerates}
-use Rattle.choice_theory.specs.Numbered.{RowList, rowAt, rowsAt, Numbers, InRowList, WorksOn}
+use Rattle.choice_theory.specs.Numbered.{rowAt, rowsAt, Numbers, InRowList, WorksOn}
 use Rattle.choice_theory.specs.Rewritten.{rowsAt-before, works-rewrites, rewrites-numbers}
 use Rattle.choice_theory.specs.Can.{Can}
 use Rattle.choice_theory.specs.Going.{AtLeast, BeginsWith, Past, PassState}
 use Rattle.spec.proofs.Lists.At.{empty}
+use Rattle.spec.proofs.Decided.Rows.{RowList}
 
 -- after the same beginning a lesser number
 lesser : (p t y : List ℕ) (n m : ℕ) → n < m → ListBefore _<_ (p ++ (n ∷ t)) (p ++ (m ∷ y))

@@ -8,7 +8,8 @@ use Rattle.spec.specs.Words.{_∈_, Rule}
 use Rattle.spec.specs.Summaries.{Summaries}
 use Rattle.spec.specs.Order.{ListBefore}
 use Rattle.spec.proofs.Lists.Rising.{Rising}
-use Rattle.choice_theory.specs.Numbered.{RowList, Numbers, InRowList, WorksOn}
+use Rattle.spec.proofs.Decided.Rows.{RowList}
+use Rattle.choice_theory.specs.Numbered.{Numbers, InRowList, WorksOn}
 use Rattle.choice_theory.specs.Can.{Can}
 
 -- No list of fewer than k rows works.

@@ -9,8 +9,8 @@ use Rattle.spec.specs.Words.{_∈_, Rule}
 use Rattle.spec.specs.Summaries.{Summaries}
 use Rattle.spec.proofs.Lists.Strict.{numberOrder}
 use Rattle.spec.proofs.Lists.Sorted.{sorted, sorted-in, sorted-out, sorted-rising}
+use Rattle.spec.proofs.Decided.Rows.{RowList}
 use Rattle.containment.proofs.Normal.{sorted-few}
-use Rattle.choice_theory.specs.Numbered.{RowList}
 use Rattle.choice_theory.specs.Works.{works-more}
 use Rattle.choice_theory.specs.Can.{Can, CanBy}
 

@@ -1,13 +1,11 @@
--- RowList by their numbers, counted from 0 in their order; and the question mapped into the uses of some of them, each use numbered by its row.
+-- Rows by their numbers, counted from 0 in their order; and the question mapped into the uses of some of them, each use numbered by its row.
 use mathlib.Core.List.{List, [], map}
 use Prim.Native.Nat.{ℕ, _<_}
 use lib.ListN.{length, getD}
 use Rattle.spec.specs.Words.{_∈_, Term, con, Subgoal, Rule, becomes, Yields}
 use Rattle.spec.specs.Summaries.{Summaries, Own, kept, inPlace}
 use Rattle.spec.proofs.Lists.Rising.{Rising}
-
-abbrev pub RowList : Type 0
-RowList = List (Subgoal (Term ℕ))
+use Rattle.spec.proofs.Decided.Rows.{RowList}
 
 abbrev pub nothing : {A : Type 0} → Subgoal A
 nothing = record { relation = 0; terms = [] }

@@ -4,7 +4,8 @@ use Prim.Native.Nat.{ℕ, suc, _≤_, _<_}
 use lib.ListN.{length, getD, replicate}
 use Rattle.spec.specs.Words.{_∈_, Term, Subgoal, Rule}
 use Rattle.spec.specs.Summaries.{Summaries, Own, uses, joined}
-use Rattle.choice_theory.specs.Numbered.{RowList, keptHead}
+use Rattle.spec.proofs.Decided.Rows.{RowList}
+use Rattle.choice_theory.specs.Numbered.{keptHead}
 use Rattle.choice_theory.specs.Can.{Either}
 use Rattle.choice_theory.specs.MapsAt.{MapsAt}
 

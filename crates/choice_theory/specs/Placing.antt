@@ -12,8 +12,9 @@ use Rattle.spec.specs.Words.{_∈_, Term, var, con, Subgoal, Rule, becomes, eac
 use Rattle.spec.specs.Summaries.{Summaries, Own, old, kept, inPlace, uses}
 use Rattle.spec.proofs.Lists.Gathered.{passing, passing-in, passing-out, same-map}
 use Rattle.spec.proofs.Lists.At.{getD-in, in-getD, choices, passing-split}
+use Rattle.spec.proofs.Decided.Rows.{RowList}
 use Rattle.containment.proofs.Suit.{terms-agree}
-use Rattle.choice_theory.specs.Numbered.{RowList, nothing, rowAt, InChosenUse, keptHead}
+use Rattle.choice_theory.specs.Numbered.{nothing, rowAt, InChosenUse, keptHead}
 use Rattle.choice_theory.specs.Works.{works-more}
 use Rattle.choice_theory.specs.Can.{Either, CanBy}
 use Rattle.choice_theory.specs.Placed.{targets, rowOf, AnyPair, PlacedInRows}

@@ -13,8 +13,9 @@ use Rattle.spec.proofs.Decided.Orders.{rowOrder}
 use Rattle.spec.proofs.Lists.Rising.{Rising, rising-map, rising-ascending, ascending-rising}
 use Rattle.spec.proofs.Lists.Enumerate.{Enumerates}
 use Rattle.spec.proofs.Lists.At.{getD-in, in-getD, rising-getD}
+use Rattle.spec.proofs.Decided.Rows.{RowList}
 use Rattle.containment.proofs.ListsOfRows.{AllRows, rows-back}
-use Rattle.choice_theory.specs.Numbered.{RowList, nothing, rowAt, rowsAt, Numbers, InRowList, WorksOn}
+use Rattle.choice_theory.specs.Numbered.{nothing, rowAt, rowsAt, Numbers, InRowList, WorksOn}
 use Rattle.choice_theory.specs.Works.{works-maps, maps-works}
 
 -- Rows that ascend with their numbers.

@@ -6,10 +6,11 @@ use native.Mathlib.Omega.{arith}
 use lib.ListN.{length}
 use Rattle.spec.specs.Words.{Rule}
 use Rattle.spec.specs.Summaries.{Summaries}
-use Rattle.choice_theory.specs.Numbered.{RowList, WorksOn}
+use Rattle.choice_theory.specs.Numbered.{WorksOn}
 use Rattle.choice_theory.specs.Works.{works-more}
 use Rattle.choice_theory.specs.Can.{CanBy}
 use Rattle.spec.proofs.Lists.At.{none-in}
+use Rattle.spec.proofs.Decided.Rows.{RowList}
 
 module _ (s : Summaries) (q : Rule ℕ) (rows : RowList) where
   pub can-more : {used used′ may may′ : ℕ → Type 0} {b c : ℕ} → ((u : ℕ) → u < length rows → used u → used′ u) → ((u : ℕ) → u < length rows → may u → may′ u) → b ≤ c

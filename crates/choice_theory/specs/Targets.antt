@@ -11,7 +11,8 @@ use lib.Seq.{getD-append-add}
 use Rattle.spec.specs.Words.{_∈_, Term, Subgoal}
 use Rattle.spec.specs.Summaries.{place, Summaries, Own, inPlace, uses, joined}
 use Rattle.spec.proofs.Lists.At.{getD-in, in-getD}
-use Rattle.choice_theory.specs.Numbered.{RowList, rowAt}
+use Rattle.spec.proofs.Decided.Rows.{RowList}
+use Rattle.choice_theory.specs.Numbered.{rowAt}
 use Rattle.choice_theory.specs.Placed.{owners}
 
 module _ {A : Type 0} (m : List A) (ls : List (List A)) (v : ℕ) where

@@ -8,10 +8,11 @@ use lib.ListN.{length, length-map, getD, List·getD-map}
 use Rattle.spec.specs.Words.{_∈_, Term, var, con, Subgoal, Rule, Facts, becomes, each, Yields, Mapping}
 use Rattle.spec.specs.Summaries.{Summaries, Own, old, fresh, kept, uses, joined, expansion, rewriting}
 use Rattle.spec.proofs.Lists.At.{place-getD, getD-in, index, index-place}
+use Rattle.spec.proofs.Decided.Rows.{RowList}
 use Rattle.containment.proofs.Carry.{terms-after, carry, more}
 use Rattle.containment.proofs.Places.{used, in-use}
 use Rattle.containment.proofs.Expand.{extended}
-use Rattle.choice_theory.specs.Numbered.{RowList, rowAt, rowsAt, InRowList, InChosenUse, keptHead, WorksOn}
+use Rattle.choice_theory.specs.Numbered.{rowAt, rowsAt, InRowList, InChosenUse, keptHead, WorksOn}
 use Rattle.choice_theory.specs.Moved.{renumbered}
 
 -- What keeps the old variables takes a mapping to a mapping.

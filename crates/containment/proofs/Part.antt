@@ -49,17 +49,17 @@ module _ (s : Summaries) (l : List (Subgoal (Term ℕ))) where
   owns i [] j x = con 0
   owns i (h ∷ hs) j x = cond (eqb (h .by) j) (inUse s i (h .of) x) (owns (suc i) hs j x)
 
-  abbrev Owned : ℕ → List Row → Row → Type 0
-  Owned i hs h = (n : ℕ) × (place (map hitRow hs) (suc n) ≡ some (h .of)) × ((x : ℕ) → owns i hs (h .by) x ≡ inUse s (n + i) (h .of) x)
+  abbrev OwnedBy : ℕ → List Row → Row → Type 0
+  OwnedBy i hs h = (n : ℕ) × (place (map hitRow hs) (suc n) ≡ some (h .of)) × ((x : ℕ) → owns i hs (h .by) x ≡ inUse s (n + i) (h .of) x)
 
-  owned : (i : ℕ) (hs : List Row) (h : Row) → h ∈ hs → Owned i hs h
+  owned : (i : ℕ) (hs : List Row) (h : Row) → h ∈ hs → OwnedBy i hs h
   owned i [] h m = absurd (List·Memᴰ·not-nil m)
   owned i (b ∷ hs) h m = go (eqb (b .by) (h .by)) refl m (owned (suc i) hs h)
     where
       Step : Bool → Type 0
       Step t = (n : ℕ) × (place (map hitRow (b ∷ hs)) (suc n) ≡ some (h .of)) × ((x : ℕ) → cond t (inUse s i (b .of) x) (owns (suc i) hs (h .by) x) ≡ inUse s (n + i) (h .of) x)
 
-      go : (t : Bool) → eqb (b .by) (h .by) ≡ t → h ∈ (b ∷ hs) → (h ∈ hs → Owned (suc i) hs h) → Step t
+      go : (t : Bool) → eqb (b .by) (h .by) ≡ t → h ∈ (b ∷ hs) → (h ∈ hs → OwnedBy (suc i) hs h) → Step t
       go true e m ih =
           let same : b .by ≡ h .by = eqb-true (b .by) (h .by) e in
           let row : b .of ≡ h .of = cc (b .at, h .at) in
@@ -76,14 +76,14 @@ pub record Part (s : Summaries) (q : Rule ℕ) (l : List (Subgoal (Term ℕ))) :
 
 -- The rows that the question's subgoals land in.
 module _ (s : Summaries) (q : Rule ℕ) (l : List (Subgoal (Term ℕ))) (suits : (g : Subgoal (Term ℕ)) → g ∈ l → Suits s g) (there : Mapping q (expansion s (rewriting q l))) where
-  abbrev Lands : Subgoal (Term ℕ) → Row s l → Type 0
-  Lands g h = each (becomes con (there .value)) g ∈ inPlace s (h .by) (h .of)
+  abbrev LandsIn : Subgoal (Term ℕ) → Row s l → Type 0
+  LandsIn g h = each (becomes con (there .value)) g ∈ inPlace s (h .by) (h .of)
 
-  lands : (g : Subgoal (Term ℕ)) → g ∈ q .body → (h : Row s l) × Lands g h
+  lands : (g : Subgoal (Term ℕ)) → g ∈ q .body → (h : Row s l) × LandsIn g h
   lands g m = let w = used s 0 l _ (there .holds g m) in (record { by = w .by; of = w .of; at = w .at }, rw add-zero at (w .inside))
 
-  abbrev hit : Chosen Lands (q .body)
-  hit = chosen Lands (q .body) lands
+  abbrev hit : Chosen LandsIn (q .body)
+  hit = chosen LandsIn (q .body) lands
 
   abbrev rows : List (Subgoal (Term ℕ))
   rows = map (hitRow s l) (hit .list)
@@ -95,7 +95,7 @@ module _ (s : Summaries) (q : Rule ℕ) (l : List (Subgoal (Term ℕ))) (suits :
   moved : (h : Row s l) → h ∈ hit .list → (c : Subgoal (Term (Own ℕ))) → c ∈ inPlace s (h .by) (h .of) → each (becomes con ξ) c ∈ joined (uses s 0 rows)
   moved h m c i = use-forth con s (Listed (joined (uses s 0 rows))) ξ (h .by) (h .of) y (λ x. o .2 x ∙ ap (λ n. inUse s n (h .of) x) (add-zero (o .0))) c i
     where
-      o : Owned s l 0 (hit .list) h
+      o : OwnedBy s l 0 (hit .list) h
       o = owned s l 0 (hit .list) h m
 
       y : Yields con (definition s (h .of .relation)) (Listed (joined (uses s 0 rows))) (map (becomes con kept) (h .of .terms))

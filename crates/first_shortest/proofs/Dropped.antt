@@ -9,7 +9,7 @@ use lib.Bits.{bitOr}
 use lib.ListN.{length, getD}
 use Rattle.spec.specs.Words.{Rule}
 use Rattle.spec.specs.Summaries.{Summaries}
-use Rattle.choice_theory.specs.Numbered.{RowList}
+use Rattle.spec.proofs.Decided.Rows.{RowList}
 use Rattle.choice_theory.specs.Can.{CanBy}
 use Rattle.choice_theory.specs.Dominance.{drop-dominated}
 use Rattle.bits.specs.Sets.{Has, without, Meets}

@@ -12,7 +12,6 @@ use lib.Seq.{take-suc-set, drop-set-lt, length-take-le}
 use Rattle.spec.specs.Words.{Rule}
 use Rattle.spec.specs.Summaries.{Summaries}
 use Rattle.spec.specs.BookLayout.{questionMost}
-use Rattle.choice_theory.specs.Numbered.{RowList}
 use Rattle.choice_theory.specs.Can.{Can}
 use Rattle.choice_theory.specs.Going.{AtLeast}
 use Rattle.choice_theory.specs.Marked.{Marked, marked-start, marked-taken, marked-passed, marked-can}
@@ -30,6 +29,7 @@ use Rattle.first_shortest.specs.Passing.{nothing, found, starting, takin
 use Rattle.first_shortest.specs.declared.Pass.{Pass}
 use Rattle.first_shortest.proofs.Tests.{feasible-can}
 use Rattle.spec.proofs.Lists.Zeros.{drop-next}
+use Rattle.spec.proofs.Decided.Rows.{RowList}
 
 -- before the first row: of n rows none is used, all may be
 module _ {s : Summaries} {q : Rule ℕ} {rows : RowList} {t : Task} {b : List ℕ} {n : ℕ} (p : PosedBy s q rows t b n) where

@@ -13,7 +13,8 @@ use Rattle.spec.proofs.Lists.Strict.{first-unique, numbers-compare}
 use Rattle.spec.proofs.Decided.Orders.{rowOrder, shorterOrder}
 use Rattle.spec.proofs.Lists.Rising.{Rising}
 use Rattle.spec.proofs.Lists.At.{rising-getD}
-use Rattle.choice_theory.specs.Numbered.{RowList, nothing, rowAt, rowsAt}
+use Rattle.spec.proofs.Decided.Rows.{RowList}
+use Rattle.choice_theory.specs.Numbered.{nothing, rowAt, rowsAt}
 use Rattle.task.specs.Task.{Task}
 use Rattle.first_shortest.specs.Posed.{Posed}
 use Rattle.first_shortest.specs.Chosen.{numbersOf, Found, NotFound, ChosenBy, ChoiceSays}

@@ -7,7 +7,7 @@ use Prim.Native.Nat.{ℕ}
 use lib.ListN.{replicate}
 use Rattle.spec.specs.Summaries.{Summaries}
 use Rattle.spec.proofs.Lists.Zeros.{zero-at}
-use Rattle.choice_theory.specs.Numbered.{RowList}
+use Rattle.spec.proofs.Decided.Rows.{RowList}
 use Rattle.choice_theory.specs.Dominates.{Dominates}
 use Rattle.bits.proofs.Laws.{exactly-once}
 use Rattle.task.specs.Task.{Task, Sized}

@@ -8,7 +8,8 @@ use Rattle.spec.specs.Words.{_∈_, Rule}
 use Rattle.spec.specs.Summaries.{Summaries}
 use Rattle.spec.specs.Answer.{Rewrites, Answer}
 use Rattle.spec.specs.BookLayout.{questionMost}
-use Rattle.choice_theory.specs.Numbered.{RowList, rowsAt}
+use Rattle.spec.proofs.Decided.Rows.{RowList}
+use Rattle.choice_theory.specs.Numbered.{rowsAt}
 use Rattle.task.specs.Task.{Task}
 use Rattle.first_shortest.specs.Posed.{PosedBy}
 use Rattle.first_shortest.specs.declared.Chosen.{Chosen}

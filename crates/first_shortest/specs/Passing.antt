@@ -7,7 +7,7 @@ use lib.ListN.{length, take, drop, replicate, set}
 use Rattle.spec.specs.Words.{Rule}
 use Rattle.spec.specs.Summaries.{Summaries}
 use Rattle.spec.specs.BookLayout.{questionMost}
-use Rattle.choice_theory.specs.Numbered.{RowList}
+use Rattle.spec.proofs.Decided.Rows.{RowList}
 use Rattle.choice_theory.specs.Going.{PassState}
 use Rattle.choice_theory.specs.Marked.{Marked}
 use Rattle.bits.specs.Sets.{Has, with, without, first}

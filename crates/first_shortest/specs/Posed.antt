@@ -8,7 +8,7 @@ use Rattle.spec.specs.Summaries.{Summaries, SummaryRow, uses}
 use Rattle.spec.specs.Order.{RowBefore}
 use Rattle.spec.proofs.Lists.Enumerate.{Enumerates}
 use Rattle.spec.specs.Table.{mostRows}
-use Rattle.choice_theory.specs.Numbered.{RowList}
+use Rattle.spec.proofs.Decided.Rows.{RowList}
 use Rattle.choice_theory.specs.Placed.{owners}
 use Rattle.outcomes.specs.Bounds.{Bounds, RowsWithin}
 use Rattle.task.specs.Task.{Task}

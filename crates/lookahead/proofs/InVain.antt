@@ -116,13 +116,13 @@ module _ (p : Task) (z : Sized p) (at end : ℕ) (u : UseEnd (p .lasts) at end) 
 
 module _ (p : Task) (z : Sized p) (at end : ℕ) (u : UseEnd (p .lasts) at end) (b : List ℕ) (rows : Rows) where
   -- the target that a completion sends it to
-  record Sent (i : ℕ) (l : List ℕ) : Type 0 where
+  record SentTo (i : ℕ) (l : List ℕ) : Type 0 where
     k : ℕ
     inside : k ∈ l
     within : k < targets p
     fits : SuitsTarget p b i k
 
-  sent : (i : ℕ) → at ≤ i → i < end → (set slots : ℕ) → SlotsOf p i set slots → (v : ℕ → ℕ) (l : List ℕ) → AgreesOn b slots v → Completes p (goals p - at) at v l → Sent i l
+  sent : (i : ℕ) → at ≤ i → i < end → (set slots : ℕ) → SlotsOf p i set slots → (v : ℕ → ℕ) (l : List ℕ) → AgreesOn b slots v → Completes p (goals p - at) at v l → SentTo i l
   sent i h j set slots s v l on c =
       let e : at + (i - at) ≡ i = omega arith in
       let d = rw e at (landing p (goals p - at) at (i - at) v l (omega (arith, there p z at end u i h j)) (λ y m n. u .exactly i .0 (h, j) .one y m (omega arith)) c) in
@@ -157,10 +157,10 @@ module _ (p : Task) (z : Sized p) (at end : ℕ) (u : UseEnd (p .lasts) at end) 
         let k = sent i h j (w .slots) slots s v l (rw (g .slots) at on) c in
         go k (r .each (k .k) (k .inside))
       where
-        member : (k : Sent i l) → Has (rows .used) (rowOf p (k .k)) ⊎ Has (rows .may) (rowOf p (k .k)) → Has with (rowOf p (k .k))
+        member : (k : SentTo i l) → Has (rows .used) (rowOf p (k .k)) ⊎ Has (rows .may) (rowOf p (k .k)) → Has with (rowOf p (k .k))
         member k y = f .each (m .exactly .0 refl) (k .k) (k .within) (or-either (rows .used) (rows .may) (rowOf p (k .k)) y) (k .fits)
 
-        go : (k : Sent i l) → Has (rows .used) (rowOf p (k .k)) ⊎ (rowOf p (k .k) ∈ r .taken) → total (w .served) (r .taken) < total (more .served) (r .taken)
+        go : (k : SentTo i l) → Has (rows .used) (rowOf p (k .k)) ⊎ (rowOf p (k .k) ∈ r .taken) → total (w .served) (r .taken) < total (more .served) (r .taken)
         go k (inl y) = absurd (m .exactly .0 refl (rowOf p (k .k)) (member k (inl y)) y)
         go k (inr y) = total-more (w .served) (more .served) grows (r .taken) (rowOf p (k .k)) y (one (rowOf p (k .k)) (z .rows (k .k)) (member k (inr (r .allowed (rowOf p (k .k)) y))))
 

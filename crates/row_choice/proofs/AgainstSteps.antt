@@ -10,7 +10,8 @@ use lib.ListN.{length, getD, take, drop, take-append-drop}
 use lib.Seq.{drop-nil}
 use Rattle.spec.specs.Summaries.{Summaries, inPlace, uses, joined}
 use Rattle.spec.specs.Given.{atFront}
-use Rattle.choice_theory.specs.Numbered.{RowList, rowAt}
+use Rattle.spec.proofs.Decided.Rows.{RowList}
+use Rattle.choice_theory.specs.Numbered.{rowAt}
 use Rattle.choice_theory.specs.Dominates.{Dominates}
 use Rattle.codes.specs.Code.{ownCode, codesOf}
 use Rattle.codes.proofs.Padded.{codes-length}

@@ -7,8 +7,7 @@ use lib.ListN.{take, replicate}
 use lib.Seq.{length-take-le}
 use Rattle.spec.specs.Words.{Term, Subgoal}
 use Rattle.spec.specs.Book.{Book, admittedOf}
-use Rattle.spec.proofs.Decided.Rows.{allRows, allRows-enumerate}
-use Rattle.choice_theory.specs.Numbered.{RowList}
+use Rattle.spec.proofs.Decided.Rows.{RowList, allRows, allRows-enumerate}
 use Rattle.outcomes.proofs.Bounds.{book-bounds}
 use Rattle.book_codes.specs.Question.{QuestionSource, QuestionBound}
 use Rattle.book_codes.specs.RowsGiven.{RowsOf}

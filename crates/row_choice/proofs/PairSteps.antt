@@ -10,7 +10,7 @@ use Rattle.spec.specs.Words.{Term, Subgoal}
 use Rattle.spec.specs.Summaries.{Summaries, Own, inPlace}
 use Rattle.spec.proofs.Lists.At.{in-getD, getD-in}
 use Rattle.spec.proofs.Lists.Zeros.{zeros-at, zeros-long}
-use Rattle.choice_theory.specs.Numbered.{RowList, nothing, rowAt}
+use Rattle.choice_theory.specs.Numbered.{nothing, rowAt}
 use Rattle.choice_theory.specs.Dominates.{Dominates}
 use Rattle.codes.specs.Code.{ownCode, keptSlot}
 use Rattle.codes.proofs.Padded.{codes-length, widths-length}
@@ -20,6 +20,7 @@ use Rattle.search_meaning.proofs.InUse.{use-few, use-some}
 use Rattle.first_shortest.specs.Pruning.{UsesBy, DominanceNeeds, DominanceSays}
 use Rattle.row_choice.specs.Dominators.{SoundRows, Pair, PairNeeds, NoRelation, PairSays}
 use Rattle.spec.proofs.Lists.Tests.{true-not-false}
+use Rattle.spec.proofs.Decided.Rows.{RowList}
 
 -- one subgoal more that is not of the relation
 pub none-yet : (target : List ℕ) {relation k : ℕ} → ((j : ℕ) → j < k → getD target (9 * j) 0 ≡ relation → ⊥) → (getD target (9 * k) 0 ≡ relation → ⊥) → (j : ℕ) → j < k + 1 → getD target (9 * j) 0 ≡ relation → ⊥

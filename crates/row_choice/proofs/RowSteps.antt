@@ -7,7 +7,8 @@ use lib.ListN.{length, take, drop}
 use lib.Seq.{take-at, length-take-le}
 use Rattle.spec.specs.Summaries.{inPlace}
 use Rattle.spec.specs.Book.{Book, admittedOf}
-use Rattle.choice_theory.specs.Numbered.{RowList, rowAt}
+use Rattle.spec.proofs.Decided.Rows.{RowList}
+use Rattle.choice_theory.specs.Numbered.{rowAt}
 use Rattle.outcomes.proofs.Bounds.{book-bounds}
 use Rattle.codes.specs.Code.{keptSlot, codesOf, widthsOf}
 use Rattle.codes.proofs.Padded.{codes-length, widths-length}

@@ -8,7 +8,7 @@ use lib.ListN.{length, getD, take, drop, set, length-set}
 use lib.Seq.{take-at, getD-set-same, getD-set-other}
 use Rattle.spec.specs.Summaries.{uses}
 use Rattle.spec.specs.Book.{Book, admittedOf}
-use Rattle.choice_theory.specs.Numbered.{RowList}
+use Rattle.spec.proofs.Decided.Rows.{RowList}
 use Rattle.book_codes.specs.RowsGiven.{RowsOf}
 use Rattle.book_codes.specs.Insides.{starts}
 use Rattle.book_codes.specs.AllUses.{AllStarts}

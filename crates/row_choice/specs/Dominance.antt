@@ -3,7 +3,7 @@ use mathlib.Core.List.{List}
 use Prim.Native.Nat.{ℕ, _<_}
 use lib.ListN.{getD}
 use Rattle.spec.specs.Book.{Book, admittedOf}
-use Rattle.choice_theory.specs.Numbered.{RowList}
+use Rattle.spec.proofs.Decided.Rows.{RowList}
 use Rattle.book_codes.specs.RowsGiven.{RowsOf}
 use Rattle.row_choice.specs.Dominators.{Dominators}
 

@@ -4,7 +4,7 @@ use mathlib.Core.List.{List}
 use Prim.Native.Nat.{ℕ}
 use Rattle.spec.specs.Summaries.{uses, joined}
 use Rattle.spec.specs.Book.{Book, admittedOf}
-use Rattle.choice_theory.specs.Numbered.{RowList}
+use Rattle.spec.proofs.Decided.Rows.{RowList}
 use Rattle.choice_theory.specs.Placed.{owners}
 use Rattle.codes.specs.Code.{ownCode, codesOf}
 use Rattle.book_codes.specs.RowsGiven.{RowsOf}

@@ -43,12 +43,12 @@ module _ {bytes : List ℕ} {n : ℕ} (count : HeadCount bytes n) where
 
   module _ {i : ℕ} (turn : i < n) where
     -- the head's next term
-    record Next (v : Rule ℕ) : Type 0 where
+    record NextSlot (v : Rule ℕ) : Type 0 where
       term : Term ℕ
       stands : place (v .head) (suc i) ≡ some term
       here : TermAt bytes (2 + 5 * i) term
 
-    next : {relations : List ℕ} (v : Rule ℕ) → SummaryIs relations bytes v → Next v
+    next : {relations : List ℕ} (v : Rule ℕ) → SummaryIs relations bytes v → NextSlot v
     next {relations} v s =
         let t = place-some (v .head) i (let same = count .is relations 8 v (s .layout) in omega arith) in
         record { term = t .0; stands = t .1; here = head-terms (s .layout) .term i (t .0) (t .1) }

@@ -62,32 +62,32 @@ bound-ends {bytes} {bound} {n} {i} count h s = record {
 
 module _ {bytes bound : List ℕ} {n i : ℕ} (count : HeadCount bytes n) (turn : i < n) (s : BoundSoFar bytes i bound) where
   -- the head's next term
-  record Next (r : Rule ℕ) : Type 0 where
+  record NextBound (r : Rule ℕ) : Type 0 where
     term : Term ℕ
     here : TermAt bytes (2 + 5 * i) term
     more : take (i + 1) (r .head) ≡ take i (r .head) ++ (term ∷ [])
 
-  next : (arities : List ℕ) (most : ℕ) (r : Rule ℕ) → Layout arities most bytes r → Next r
+  next : (arities : List ℕ) (most : ℕ) (r : Rule ℕ) → Layout arities most bytes r → NextBound r
   next a m r l =
       let t = place-some (r .head) i (let same = count .is a m r l in omega arith) in
       let one : i + 1 ≡ suc i = omega arith in
       record { term = t .0; here = head-terms l .term i (t .0) (t .1); more = ap (λ k. take k (r .head)) one ∙ take-place (r .head) i (t .0) (t .1) }
 
   -- the terms up to it, and it
-  earlier : {r : Rule ℕ} (k : Next r) {t : Term ℕ} → t ∈ take i (r .head) → t ∈ take (i + 1) (r .head)
+  earlier : {r : Rule ℕ} (k : NextBound r) {t : Term ℕ} → t ∈ take i (r .head) → t ∈ take (i + 1) (r .head)
   earlier {r} k {t} h = subst (λ l. t ∈ l) (sym (k .more)) (Memᴰ·append-left (k .term ∷ []) h)
 
-  last : {r : Rule ℕ} (k : Next r) {t : Term ℕ} → t ≡ k .term → t ∈ take (i + 1) (r .head)
+  last : {r : Rule ℕ} (k : NextBound r) {t : Term ℕ} → t ≡ k .term → t ∈ take (i + 1) (r .head)
   last {r} k {t} e = subst (λ l. t ∈ l) (sym (k .more)) (Memᴰ·append-right (take i (r .head)) (List·Memᴰ·head e))
 
-  either : {r : Rule ℕ} (k : Next r) {t : Term ℕ} → t ∈ take (i + 1) (r .head) → (t ∈ take i (r .head)) ⊎ (t ≡ k .term)
+  either : {r : Rule ℕ} (k : NextBound r) {t : Term ℕ} → t ∈ take (i + 1) (r .head) → (t ∈ take i (r .head)) ⊎ (t ≡ k .term)
   either {r} k {t} h = ⊎-elim inl (λ m. inr (List·Memᴰ·eq-of-singleton m)) (List·Memᴰ·append-cases (take i (r .head)) (subst (λ l. t ∈ l) (k .more) h))
 
   pub term-room : Laid bytes → 2 + 5 * i + 5 ≤ length bytes
   term-room w = next (w .arities) (w .most) (w .rule) (w .layout) .here .room
 
   module _ {x : ℕ} (tag : getD bytes (2 + 5 * i) 0 ≡ 0) (e : x ≡ numberAt 4 bytes (2 + 5 * i + 1)) where
-    variable : {r : Rule ℕ} (k : Next r) → (k .term ≡ var x) × (x < 32)
+    variable : {r : Rule ℕ} (k : NextBound r) → (k .term ≡ var x) × (x < 32)
     variable k = go (k .term) (k .here)
       where
         go : (t : Term ℕ) → TermAt bytes (2 + 5 * i) t → (t ≡ var x) × (x < 32)
@@ -100,13 +100,13 @@ module _ {bytes bound : List ℕ} {n i : ℕ} (count : HeadCount bytes n) (turn 
     pub bound-variable : BoundSoFar bytes (i + 1) (set bound x (variableTag + x))
     bound-variable = record { long = length-set bound x (variableTag + x) ∙ s .long; shown = shown; other = other }
       where
-        stored : {r : Rule ℕ} → Next r → (y : ℕ) → getD (set bound x (variableTag + x)) y 0 ≡ cond (eqb x y) (variableTag + x) (getD bound y 0)
+        stored : {r : Rule ℕ} → NextBound r → (y : ℕ) → getD (set bound x (variableTag + x)) y 0 ≡ cond (eqb x y) (variableTag + x) (getD bound y 0)
         stored k y = after-store bound x (variableTag + x) y (let h = variable k .1 in let n = s .long in omega arith)
 
         shown : (arities : List ℕ) (most : ℕ) (r : Rule ℕ) → Layout arities most bytes r → (y : ℕ) → var y ∈ take (i + 1) (r .head) → getD (set bound x (variableTag + x)) y 0 ≡ termCode (var y)
         shown a m r l y h = stored k y ∙ go (eqb x y) refl (either k h)
           where
-            k : Next r
+            k : NextBound r
             k = next a m r l
 
             go : (b : Bool) → eqb x y ≡ b → (var y ∈ take i (r .head)) ⊎ (var y ≡ k .term) → cond b (variableTag + x) (getD bound y 0) ≡ termCode (var y)
@@ -117,7 +117,7 @@ module _ {bytes bound : List ℕ} {n i : ℕ} (count : HeadCount bytes n) (turn 
         other : (arities : List ℕ) (most : ℕ) (r : Rule ℕ) → Layout arities most bytes r → (y : ℕ) → (var y ∈ take (i + 1) (r .head) → ⊥) → getD (set bound x (variableTag + x)) y 0 ≡ 0
         other a m r l y f = stored k y ∙ go (eqb x y) refl
           where
-            k : Next r
+            k : NextBound r
             k = next a m r l
 
             go : (b : Bool) → eqb x y ≡ b → cond b (variableTag + x) (getD bound y 0) ≡ 0

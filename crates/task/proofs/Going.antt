@@ -43,14 +43,14 @@ module _ (p : Task) (b ks : List ℕ) where
       cons = slice-cons i (goals p) ks 0 more (omega arith)
 
       -- every completion goes over the place given, and on
-      record Over (v : ℕ → ℕ) : Type 0 where
+      record GoesOver (v : ℕ → ℕ) : Type 0 where
         w : ℕ → ℕ
         within : getD ks i 0 < targets p
         agrees : Agrees p v i (getD ks i 0)
         linked : Linked p i v w
         rest : Completes p (goals p - suc i) (suc i) w (slice (suc i) (goals p) ks)
 
-      goes : (v : ℕ → ℕ) → Completes p (goals p - i) i v (slice i (goals p) ks) → Over v
+      goes : (v : ℕ → ℕ) → Completes p (goals p - i) i v (slice i (goals p) ks) → GoesOver v
       goes v q =
           let s = step p i more v (slice i (goals p) ks) q in
           let here : s .k ≡ getD ks i 0 = sym (ap (λ l. getD l 0 0) (sym cons ∙ s .is)) in

@@ -70,7 +70,7 @@ bookOf relations h k question summary n = record {
   summaries = replicate n (summaryOf h k summary);
 }
 
-record Bounds (relations h k question summary n : ℕ) : Type 0 where
+record Shape (relations h k question summary n : ℕ) : Type 0 where
   some : 1 ≤ relations
   few : relations ≤ 32
   short : h ≤ 8
@@ -83,7 +83,7 @@ record Bounds (relations h k question summary n : ℕ) : Type 0 where
   most′ : summary ≤ summaryMost
   all : n ≤ mostSummaries
 
-module _ (relations h k question summary n : ℕ) (b : Bounds relations h k question summary n) where
+module _ (relations h k question summary n : ℕ) (b : Shape relations h k question summary n) where
   rule-within : (many most : ℕ) → 1 ≤ many → many ≤ most → RuleWithin (replicate relations k) most (ruleOf h k many)
   rule-within many most l m = record {
     short = let u = b .short in omega (arith, variables-many h);

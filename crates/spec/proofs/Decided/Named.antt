@@ -45,13 +45,13 @@ placesIn n l = everyPlace (λ m f. one (n ∷ m ∷ []) f) l
 abbrev pub pairs : {A : Type 0} → List (List (Subgoal A)) → List (Target A)
 pairs ls = everyPlace placesIn ls
 
-abbrev Within : {A : Type 0} → List (Target A) → List (Target A) → Type 0
-Within {A} us ts = (t : Target A) → t ∈ us → t ∈ ts
+abbrev AllAmong : {A : Type 0} → List (Target A) → List (Target A) → Type 0
+AllAmong {A} us ts = (t : Target A) → t ∈ us → t ∈ ts
 
-within-nil : {A : Type 0} {ts : List (Target A)} → Within [] ts
+within-nil : {A : Type 0} {ts : List (Target A)} → AllAmong [] ts
 within-nil t m = absurd (List·Memᴰ·not-nil m)
 
-within-cons : {A : Type 0} {u : Target A} {us ts : List (Target A)} → u ∈ ts → Within us ts → Within (u ∷ us) ts
+within-cons : {A : Type 0} {u : Target A} {us ts : List (Target A)} → u ∈ ts → AllAmong us ts → AllAmong (u ∷ us) ts
 within-cons i h t (List·Memᴰ·head e) = Memᴰ·cast e i
 within-cons i h t (List·Memᴰ·tail j) = h t j
 
@@ -59,13 +59,13 @@ module _ {A : Type 0} (l : List (Subgoal A)) where
   places-out : (t : Target A) → t ∈ places l → (n : ℕ) × (f : Subgoal A) × (place l n ≡ some f) × (t ≡ record { bytes = n ∷ []; fact = f })
   places-out t m = let w = everyPlace-out (λ n f. one (n ∷ []) f) l m in (w .0, w .1, w .2, List·Memᴰ·eq-of-singleton (w .3))
 
-  places-sound : (us : List (Target A)) → Within us (places l) → AtPlaces l (written us) (map factOf us)
+  places-sound : (us : List (Target A)) → AllAmong us (places l) → AtPlaces l (written us) (map factOf us)
   places-sound [] h = tt
   places-sound (u ∷ us) h =
       let w = places-out u (h u (List·Memᴰ·head refl)) in
       subst (λ t. AtPlaces l (t .bytes ++ written us) (t .fact ∷ map factOf us)) (sym (w .3)) (w .2, places-sound us (λ t m. h t (List·Memᴰ·tail m)))
 
-  places-complete : (bytes : List ℕ) (facts : List (Subgoal A)) → AtPlaces l bytes facts → (us : List (Target A)) × Within us (places l) × (written us ≡ bytes) × (map factOf us ≡ facts)
+  places-complete : (bytes : List ℕ) (facts : List (Subgoal A)) → AtPlaces l bytes facts → (us : List (Target A)) × AllAmong us (places l) × (written us ≡ bytes) × (map factOf us ≡ facts)
   places-complete [] [] h = ([], within-nil, refl, refl)
   places-complete [] (f ∷ fs) h = absurd h
   places-complete (n ∷ ns) [] h = absurd h
@@ -89,13 +89,13 @@ module _ {A : Type 0} (ls : List (List (Subgoal A))) where
       let w = everyPlace-out (λ m f. one (v .0 ∷ m ∷ []) f) (v .1) (v .3) in
       (v .0, w .0, v .1, w .1, v .2, w .2, List·Memᴰ·eq-of-singleton (w .3))
 
-  pairs-sound : (us : List (Target A)) → Within us (pairs ls) → AtPairs ls (written us) (map factOf us)
+  pairs-sound : (us : List (Target A)) → AllAmong us (pairs ls) → AtPairs ls (written us) (map factOf us)
   pairs-sound [] h = tt
   pairs-sound (u ∷ us) h =
       let w = pairs-out u (h u (List·Memᴰ·head refl)) in
       subst (λ t. AtPairs ls (t .bytes ++ written us) (t .fact ∷ map factOf us)) (sym (w .6)) ((w .2, w .4, w .5), pairs-sound us (λ t m. h t (List·Memᴰ·tail m)))
 
-  pairs-complete : (bytes : List ℕ) (facts : List (Subgoal A)) → AtPairs ls bytes facts → (us : List (Target A)) × Within us (pairs ls) × (written us ≡ bytes) × (map factOf us ≡ facts)
+  pairs-complete : (bytes : List ℕ) (facts : List (Subgoal A)) → AtPairs ls bytes facts → (us : List (Target A)) × AllAmong us (pairs ls) × (written us ≡ bytes) × (map factOf us ≡ facts)
   pairs-complete [] [] h = ([], within-nil, refl, refl)
   pairs-complete [] (f ∷ fs) h = absurd h
   pairs-complete (n ∷ []) fs h = absurd h

@@ -26,6 +26,9 @@ summary-within s n r e = go (place s n) refl e
     go none p q = absurd (Option·none-ne-some r q)
     go (some o) p q = place-within s n o p
 
+abbrev pub RowList : Type 0
+RowList = List (Subgoal (Term ℕ))
+
 abbrev pub asRow : ℕ → List (Term ℕ) → Subgoal (Term ℕ)
 asRow n row = record { relation = n; terms = row }
 

@@ -104,17 +104,17 @@ module _ {M : Type 1} (𝓤 : URA M) (H : Heap 𝓤) (A : Atoms 𝓤) (W : Given
   abbrev Post : Val → SProp 𝓤
   Post = walkOf 𝓤 H A own.ended stayed (own.clauses 𝓤 H A at-mem run) .post (((κ, (κ₂, tt)), (q, (q₂, tt)), tt, x ys, at), tt)
 
-  abbrev Book : Fml
-  Book = ShrSlice (named 0) κ u8 .own book (v₁ ∷ [])
+  abbrev BookLent : Fml
+  BookLent = ShrSlice (named 0) κ u8 .own book (v₁ ∷ [])
 
   -- From here on the answer r, whose machine value is u, and the number n of records are known.
   module _ (r : Loaded) (u : Val) (n : ℕ) (is : Is E.the-row r (u ∷ [])) (says-r : JudgeSays s (length ys) r) (n-is : n ≡ recordsOf r) (room : Room T.the-row (length ys)) where
     abbrev zs : List Entry
     zs = filled s n ys
 
-    exits : ent 𝓤 (⋆ 𝓤 H A (‵ (fobs γ (codedHoleys T.the-row .code (heres T.the-row zs))) ∷ ‵ (fbor κ₂ (Held T.the-row (length zs) b o γ)) ∷ ‵ (flft κ₂ q₂) ∷ ‵ (flft κ q) ∷ ‵ Book ∷ [])) (Post u)
+    exits : ent 𝓤 (⋆ 𝓤 H A (‵ (fobs γ (codedHoleys T.the-row .code (heres T.the-row zs))) ∷ ‵ (fbor κ₂ (Held T.the-row (length zs) b o γ)) ∷ ‵ (flft κ₂ q₂) ∷ ‵ (flft κ q) ∷ ‵ BookLent ∷ [])) (Post u)
     exits =
-        qed W (‵ (fobs γ (codedHoleys T.the-row .code (heres T.the-row zs))) ∷ ‵ (fbor κ₂ (Held T.the-row (length zs) b o γ)) ∷ ‵ (flft κ₂ q₂) ∷ ‵ (flft κ q) ∷ ‵ Book ∷ []) ∵
+        qed W (‵ (fobs γ (codedHoleys T.the-row .code (heres T.the-row zs))) ∷ ‵ (fbor κ₂ (Held T.the-row (length zs) b o γ)) ∷ ‵ (flft κ₂ q₂) ∷ ‵ (flft κ q) ∷ ‵ BookLent ∷ []) ∵
         suffices ! _ (ends-at 𝓤 H A own.ended stayed (own.clauses 𝓤 H A at-mem run) W (((κ, (κ₂, tt)), (q, (q₂, tt)), tt, x ys, at), tt) u r (tt, (zs, tt)) (tt, (length-filled s n ys, tt))) $
         says ! (loaded s ys r n says-r n-is) $
         nothing ! $ move ! (3 ∷ 0 ∷ []) $ join ! $ move ! (3 ∷ 0 ∷ []) $ join ! $ frame ! $
@@ -143,7 +143,7 @@ module _ {M : Type 1} (𝓤 : URA M) (H : Heap 𝓤) (A : Atoms 𝓤) (W : Given
       En = (E′.mir, l₀) ∷ (slice₁, l₁) ∷ (slice₂, l₂) ∷ (E′.mir, l₃) ∷ (word, l₄) ∷ (word, l₅) ∷ (word, l₆) ∷ (tyBool, l₇) ∷ (T′.mir, l₈) ∷ (word, l₉) ∷ (tyPtr, l₁₀) ∷ []
 
       abbrev Frame : List (Item 𝓤)
-      Frame = ‵ (flft κ q) ∷ ‵ Book ∷ ‵ (fat fullShare slice₂ l₂ 0 v₂) ∷ ‵ (fat fullShare slice₁ l₁ 0 v₁) ∷ ‵ (fat fullShare word l₄ 0 (vint w64 n)) ∷ ‵ (froom E′.mir l₀ 0)
+      Frame = ‵ (flft κ q) ∷ ‵ BookLent ∷ ‵ (fat fullShare slice₂ l₂ 0 v₂) ∷ ‵ (fat fullShare slice₁ l₁ 0 v₁) ∷ ‵ (fat fullShare word l₄ 0 (vint w64 n)) ∷ ‵ (froom E′.mir l₀ 0)
           ∷ ‵ (fobor κ₂ q₂ (Held T.the-row (length ys) b o γ)) ∷ ‵ (fobs γ (codedHoleys T.the-row .code (heres T.the-row ys))) ∷ ‵ (fauth γ (codedHoleys T.the-row .code (heres T.the-row ys)))
           ∷ ‵ (fat fullShare E′.mir l₃ 0 u) ∷ ‵ (fat fullShare word l₆ 0 (vint w64 (length ys)))
           ∷ ‵ (fdies E′.mir l₀) ∷ ‵ (fdies slice₁ l₁) ∷ ‵ (fdies slice₂ l₂) ∷ ‵ (fdies E′.mir l₃) ∷ ‵ (fdies word l₄) ∷ ‵ (fdies word l₅) ∷ ‵ (fdies word l₆) ∷ ‵ (fdies tyBool l₇) ∷ ‵ (fdies T′.mir l₈) ∷ ‵ (fdies word l₉) ∷ ‵ (fdies tyPtr l₁₀) ∷ []
@@ -155,8 +155,8 @@ module _ {M : Type 1} (𝓤 : URA M) (H : Heap 𝓤) (A : Atoms 𝓤) (W : Given
       abbrev Inv : ℕ → SProp 𝓤
       Inv t = ex 𝓤 (λ (i : ℕ). guard 𝓤 (i + t ≡ n) (⋆ 𝓤 H A (At i)))
 
-      abbrev Below : ℕ → SProp 𝓤
-      Below t = ex 𝓤 (λ (t′ : ℕ). guard 𝓤 (t′ < t) (Inv t′))
+      abbrev Shorter : ℕ → SProp 𝓤
+      Shorter t = ex 𝓤 (λ (t′ : ℕ). guard 𝓤 (t′ < t) (Inv t′))
 
       abbrev Left : Out → SProp 𝓤
       Left = afterBlock 𝓤 H (afterSeq 𝓤 H (Wp 𝓤 H C Λ En parts.t-6 (atReturn 𝓤 H En Post)) (atReturn 𝓤 H En Post))
@@ -172,23 +172,23 @@ module _ {M : Type 1} (𝓤 : URA M) (H : Heap 𝓤) (A : Atoms 𝓤) (W : Given
           assigns ! (bin ! (load ! (from ! (stop !)) (look ! 1 refl)) (load ! (from ! (stop !)) (look ! 10 refl)) tt) (from ! (stop !)) (init ! 2 refl (tt, tt)) $
           rewrite ! 2 (λ (t : Bool). ‵ (fat fullShare tyBool l₇ 0 (vbool t))) (lt-ltb i n small) refl $
           stays ! (load ! (from ! (stop !)) (look ! 2 refl)) $
-          move ! (7 ∷ []) $ use1 W (‵ Book ⊛ ‵ Book) (shr-slice-copy 𝓤 H A W (named 0) κ u8 .twice book (v₁ ∷ [])) $ split ! $
+          move ! (7 ∷ []) $ use1 W (‵ BookLent ⊛ ‵ BookLent) (shr-slice-copy 𝓤 H A W (named 0) κ u8 .twice book (v₁ ∷ [])) $ split ! $
           move ! (8 ∷ 0 ∷ []) $ use2 W (raw (RecordAt 𝓤 H A at-mem run .pre (to 𝓤 H A W at-mem run κ q book i))) (goes 𝓤 H A W at-mem run κ q book i i-fits asked) $
-          -- [the call's pre; Book; the row; _5; _7; _8; _9; _10; _2; _1; …]
+          -- [the call's pre; BookLent; the row; _5; _7; _8; _9; _10; _2; _1; …]
           calls-at ! (fmOf 𝓤 H (W .laws) 𝓣) (RecordAt 𝓤 H A at-mem run) known (to 𝓤 H A W at-mem run κ q book i) (and-then ! (load ! (from ! (stop !)) (look ! 9 refl)) (and-then ! (load ! (from ! (stop !)) (look ! 3 refl)) (no-more !))) (λ v.
           use1 W (later (some (λ (e : Entry). ((‵ (flft κ q) ⊛ ‵ ftrue) ⊛ ‵ (T.the-row .own e (v ∷ []))) ⊛ raw (ensured 𝓤 H A rec-at.ended (rec-at.clauses 𝓤 H A at-mem run) (κ, tt) (book, (i, tt)) tt e)))) (id⊢ 𝓤 _) $ await ! tt $ pick ! (λ e.
           split ! $ move ! (1 ∷ []) $ use1 W (raw (fact 𝓤 (e ≡ recordAt s i))) (said 𝓤 H A W at-mem run κ q book i e) $ heard ! (e ≡ recordAt s i) (λ e-is. split ! $ move ! (1 ∷ []) $
           peeks ! T.the-row (Is T.the-row) (shows 𝓤 H A T.the-row) e (v ∷ []) (λ ev.
-          -- [what e owns; the token; Book; the row; _5; _7; _8; _9; _10; _2; _1; _4; _0; …]
+          -- [what e owns; the token; BookLent; the row; _5; _7; _8; _9; _10; _2; _1; _4; _0; …]
           land ! (from ! (stop !)) (init ! 6 refl (LL.lawful T.the-type T′.the-laws 𝓤 H A W .typed e _ ev .0)) $
           assigns ! (bin ! (load ! (from ! (stop !)) (look ! 4 refl)) (lit ! tt) (record { fits = omega arith })) (from ! (stop !)) (init ! 7 refl (tt, record { fits = omega arith })) $
           assigns ! (bin ! (load ! (from ! (fld ! refl (stop !))) (look-in ! 9 (sub ! 0 refl (whole !)))) (load ! (from ! (stop !)) (look ! 7 refl)) tt) (from ! (stop !)) (init ! 8 refl (tt, tt)) $
           rewrite ! 8 (λ (p : ℕ). ‵ (fat fullShare tyPtr l₁₀ 0 (vptr b p))) (sym (place-is 12 o i)) refl $
           move ! (3 ∷ []) $ elem-out ! T.the-row (Is T.the-row) (shows 𝓤 H A T.the-row) (LL.vals T.the-type T′.the-laws) (LL.tells T.the-type T′.the-laws) fullShare (filled s i ys) i e b o within (λ _.
-          -- [table[i]; what it owns; the others; what e owns; the token; Book; _5; _7; _8; _9; _10; _2; …]
+          -- [table[i]; what it owns; the others; what e owns; the token; BookLent; _5; _7; _8; _9; _10; _2; …]
           assigns ! (of-opd ! (load ! (from ! (stop !)) (look ! 8 refl))) (from ! (hop ! (look ! 10 refl) (stop !))) (store-raw ! 0 refl (LL.lawful T.the-type T′.the-laws 𝓤 H A W .typed e _ ev .0)) $
           move ! (1 ∷ []) $ drop ! $ move ! (0 ∷ 2 ∷ []) $ elem-put ! T.the-row fullShare (filled s i ys) i e (v ∷ []) b o within $
-          -- [the row; the token; Book; _5; _7; _8; _9; _10; …]
+          -- [the row; the token; BookLent; _5; _7; _8; _9; _10; …]
           assigns-last ! (bin ! (load ! (from ! (stop !)) (look ! 3 refl)) (lit ! tt) (record { fits = omega arith })) (from ! (stop !)) (store ! 3 refl (tt, record { fits = omega arith })) $
           forget ! 4 refl $ forget ! 5 refl $ forget ! 6 refl $ forget ! 7 refl $
           rewrite ! 0 (λ (l : List Entry). ‵ (row T.the-row fullShare l b o)) (filled-more s i ys e e-is) refl $ rewrite ! 3 (λ (j : ℕ). ‵ (fat fullShare word l₅ 0 (vint w64 j))) (add-one i) refl $
@@ -203,21 +203,21 @@ module _ {M : Type 1} (𝓤 : URA M) (H : Heap 𝓤) (A : Atoms 𝓤) (W : Given
           leaves-loop ! (load ! (from ! (stop !)) (look ! 2 refl)) $ exec ! C Λ En parts.t-6 (atRet En Post) $
           assigns ! (of-opd ! (load ! (from ! (stop !)) (look ! 15 refl))) (from ! (stop !)) (init ! 11 refl (EL.lawful E.the-type E′.the-laws 𝓤 H A W tt .typed r _ is .0)) $
           move ! (0 ∷ 12 ∷ 13 ∷ 14 ∷ []) $ closes-slice ! tt T.the-row ys zs (length-filled s n ys) b o $
-          -- [obs; the borrow; the token; _5; _7; _8; _9; _10; the book's token; Book; _2; _1; _4; _0; _3; _6; and that each local dies]
+          -- [obs; the borrow; the token; _5; _7; _8; _9; _10; the book's token; BookLent; _2; _1; _4; _0; _3; _6; and that each local dies]
           returns ! (look ! 13 refl) $ forget ! 3 refl $ forget ! 4 refl $ forget ! 10 refl $ forget ! 11 refl $ forget ! 12 refl $ forget ! 13 refl $ forget ! 14 refl $ forget ! 15 refl $
           move ! (13 ∷ 16 ∷ []) $ free1 ! $ move ! (11 ∷ 15 ∷ []) $ free1 ! $ move ! (10 ∷ 14 ∷ []) $ free1 ! $ move ! (11 ∷ 13 ∷ []) $ free1 ! $ move ! (10 ∷ 12 ∷ []) $ free1 ! $ move ! (3 ∷ 11 ∷ []) $ free1 ! $ move ! (9 ∷ 10 ∷ []) $ free1 ! $ move ! (3 ∷ 9 ∷ []) $ free1 ! $ move ! (3 ∷ 8 ∷ []) $ free1 ! $ move ! (3 ∷ 7 ∷ []) $ free1 ! $ move ! (3 ∷ 6 ∷ []) $ free1 ! $ free0 ! $ keep ! (0 ∷ 1 ∷ 2 ∷ 3 ∷ 4 ∷ []) $ by ! exits
 
-      below : (t i : ℕ) → suc i + t ≡ n → ent 𝓤 (⋆ 𝓤 H A (At (suc i))) (Below (suc t))
+      below : (t i : ℕ) → suc i + t ≡ n → ent 𝓤 (⋆ 𝓤 H A (At (suc i))) (Shorter (suc t))
       below t i e =
           via 𝓤 (Inv t)
           (via 𝓤 (guard 𝓤 (suc i + t ≡ n) (⋆ 𝓤 H A (At (suc i)))) (guardI 𝓤 (suc i + t ≡ n) (⋆ 𝓤 H A (At (suc i))) e) (exI 𝓤 (λ (j : ℕ). guard 𝓤 (j + t ≡ n) (⋆ 𝓤 H A (At j))) (suc i)))
           (via 𝓤 (guard 𝓤 (t < suc t) (Inv t)) (guardI 𝓤 (t < suc t) (Inv t) (omega arith)) (exI 𝓤 (λ (t′ : ℕ). guard 𝓤 (t′ < suc t) (Inv t′)) t))
 
-      turn-at : (t i : ℕ) → i + t ≡ n → ent 𝓤 (⋆ 𝓤 H A (At i)) (Wp 𝓤 H C Λ En parts.turn-1 (afterTurn 𝓤 H (Below t) Left))
-      turn-at zero i e = let f : n ≡ i = omega arith in subst (λ (k : ℕ). ent 𝓤 (⋆ 𝓤 H A (At k)) (Wp 𝓤 H C Λ En parts.turn-1 (afterTurn 𝓤 H (Below zero) Left))) f (ends (Below zero))
-      turn-at (suc t) i e = more i (Below (suc t)) (omega arith) (below t i (omega arith))
+      turn-at : (t i : ℕ) → i + t ≡ n → ent 𝓤 (⋆ 𝓤 H A (At i)) (Wp 𝓤 H C Λ En parts.turn-1 (afterTurn 𝓤 H (Shorter t) Left))
+      turn-at zero i e = let f : n ≡ i = omega arith in subst (λ (k : ℕ). ent 𝓤 (⋆ 𝓤 H A (At k)) (Wp 𝓤 H C Λ En parts.turn-1 (afterTurn 𝓤 H (Shorter zero) Left))) f (ends (Shorter zero))
+      turn-at (suc t) i e = more i (Shorter (suc t)) (omega arith) (below t i (omega arith))
 
-      turns : (t : ℕ) → ent 𝓤 (Inv t) (Wp 𝓤 H C Λ En parts.turn-1 (afterTurn 𝓤 H (Below t) Left))
+      turns : (t : ℕ) → ent 𝓤 (Inv t) (Wp 𝓤 H C Λ En parts.turn-1 (afterTurn 𝓤 H (Shorter t) Left))
       turns t = exE 𝓤 (λ (i : ℕ). guard 𝓤 (i + t ≡ n) (⋆ 𝓤 H A (At i))) (λ i. guardE 𝓤 (i + t ≡ n) (⋆ 𝓤 H A (At i)) (λ f. turn-at t i f))
 
       loops : ent 𝓤 (⋆ 𝓤 H A (At 0)) (Wp 𝓤 H C Λ En (loop parts.turn-1) Left)
@@ -228,7 +228,7 @@ module _ {M : Type 1} (𝓤 : URA M) (H : Heap 𝓤) (A : Atoms 𝓤) (W : Given
 
       -- What is in hand once the answer and the number of records have landed, and the rest of the body up to the loop.
       abbrev Landed : List (Item 𝓤)
-      Landed = (‵ (flft κ q) ⊛ ‵ ftrue) ∷ ‵ (flft κ₂ q₂) ∷ ‵ ftrue ∷ ‵ Book ∷ ‵ (MutSlice (named 1) κ₂ T.the-row .own (x ys .1 .0) (v₂ ∷ []))
+      Landed = (‵ (flft κ q) ⊛ ‵ ftrue) ∷ ‵ (flft κ₂ q₂) ∷ ‵ ftrue ∷ ‵ BookLent ∷ ‵ (MutSlice (named 1) κ₂ T.the-row .own (x ys .1 .0) (v₂ ∷ []))
           ∷ ‵ (froom tyPtr l₁₀ 0) ∷ ‵ (fdies tyPtr l₁₀) ∷ ‵ (froom word l₉ 0) ∷ ‵ (fdies word l₉) ∷ ‵ (froom T′.mir l₈ 0) ∷ ‵ (fdies T′.mir l₈) ∷ ‵ (froom tyBool l₇ 0) ∷ ‵ (fdies tyBool l₇)
           ∷ ‵ (fat fullShare word l₆ 0 (vint w64 (length ys))) ∷ ‵ (fdies word l₆) ∷ ‵ (froom word l₅ 0) ∷ ‵ (fdies word l₅) ∷ ‵ (fat fullShare word l₄ 0 (vint w64 n)) ∷ ‵ (fdies word l₄)
           ∷ ‵ (fat fullShare E′.mir l₃ 0 u) ∷ ‵ (fdies E′.mir l₃) ∷ ‵ (fat fullShare slice₂ l₂ 0 v₂) ∷ ‵ (fdies slice₂ l₂) ∷ ‵ (fat fullShare slice₁ l₁ 0 v₁) ∷ ‵ (fdies slice₁ l₁) ∷ ‵ (froom E′.mir l₀ 0) ∷ ‵ (fdies E′.mir l₀) ∷ []
@@ -249,14 +249,14 @@ module _ {M : Type 1} (𝓤 : URA M) (H : Heap 𝓤) (A : Atoms 𝓤) (W : Given
       alloc1 ! (λ l₀. alloc1 ! (λ l₁. alloc1 ! (λ l₂. alloc1 ! (λ l₃. alloc1 ! (λ l₄. alloc1 ! (λ l₅. alloc1 ! (λ l₆. alloc1 ! (λ l₇. alloc1 ! (λ l₈. alloc1 ! (λ l₉. alloc1 ! (λ l₁₀. alloc0 ! $ params1 ! $
       pass1 ! (init ! 18 refl (tt, (tt, (record { fits = broom .0 }, tt)))) $ pass1 ! (init ! 16 refl (tt, (tt, (record { fits = room .0 }, tt)))) $ pass0 ! $
       assigns ! (of-opd ! (load ! (from ! (fld ! refl (stop !))) (look-in ! 16 (sub ! 1 refl (whole !))))) (from ! (stop !)) (init ! 8 refl (tt, record { fits = room .0 })) $
-      move ! (23 ∷ []) $ fsplit ! $ move ! (1 ∷ []) $ fsplit ! $ move ! (1 ∷ []) $ drop ! $ move ! (1 ∷ []) $ use1 W (‵ Book ⊛ ‵ Book) (shr-slice-copy 𝓤 H A W (named 0) κ u8 .twice book (v₁ ∷ [])) $ split ! $
+      move ! (23 ∷ []) $ fsplit ! $ move ! (1 ∷ []) $ fsplit ! $ move ! (1 ∷ []) $ drop ! $ move ! (1 ∷ []) $ use1 W (‵ BookLent ⊛ ‵ BookLent) (shr-slice-copy 𝓤 H A W (named 0) κ u8 .twice book (v₁ ∷ [])) $ split ! $
       move ! (25 ∷ []) $ split ! $ move ! (1 ∷ []) $ split ! $ move ! (2 ∷ 3 ∷ []) $ use2 W (raw (Judge 𝓤 H A at-mem run .pre (to-judge 𝓤 H A W at-mem run κ q book (length ys)))) (goes-judge 𝓤 H A W at-mem run κ q book (length ys) (room .0)) $
-      -- [the call's pre; the table's token; true; Book; the table; _10; …; _0; …]
+      -- [the call's pre; the table's token; true; BookLent; the table; _10; …; _0; …]
       calls-at ! (fmOf 𝓤 H (W .laws) 𝓣) (Judge 𝓤 H A at-mem run) known-judge (to-judge 𝓤 H A W at-mem run κ q book (length ys)) (and-then ! (load ! (from ! (stop !)) (look ! 23 refl)) (and-then ! (load ! (from ! (stop !)) (look ! 13 refl)) (no-more !))) (λ u.
       use1 W (later (some (λ (r : Loaded). ((‵ (flft κ q) ⊛ ‵ ftrue) ⊛ ‵ (E.the-row .own r (u ∷ []))) ⊛ raw (ensured 𝓤 H A judge.ended (judge.clauses 𝓤 H A at-mem run) (κ, tt) (book, (length ys, tt)) tt r)))) (id⊢ 𝓤 _) $ await ! tt $ pick ! (λ r.
       split ! $ move ! (1 ∷ []) $ use1 W (raw (fact 𝓤 (JudgeSays s (length ys) r))) (judged 𝓤 H A W at-mem run κ q book (length ys) r) $ heard ! (JudgeSays s (length ys) r) (λ says-r. split ! $ move ! (1 ∷ []) $
       peeks ! E.the-row (Is E.the-row) (shows 𝓤 H A E.the-row) r (u ∷ []) (λ is.
-      -- [what r owns; the book's token; the table's token; true; Book; the table; _10; …]
+      -- [what r owns; the book's token; the table's token; true; BookLent; the table; _10; …]
       land ! (from ! (stop !)) (init ! 20 refl (EL.lawful E.the-type E′.the-laws 𝓤 H A W tt .typed r _ is .0)) $
       use1 W (raw (RecordsOf 𝓤 H A at-mem run .pre (to-records 𝓤 H A W at-mem run κ q book r u))) (goes-records 𝓤 H A W at-mem run κ q book r u (few-said s (length ys) r says-r)) $
       calls-at ! (fmOf 𝓤 H (W .laws) 𝓣) (RecordsOf 𝓤 H A at-mem run) known-records (to-records 𝓤 H A W at-mem run κ q book r u) (and-then ! (load ! (from ! (stop !)) (look ! 20 refl)) (no-more !)) (λ v.

@@ -52,8 +52,8 @@ module _ {M : Type 1} (𝓤 : URA M) (H : Heap 𝓤) (A : Atoms 𝓤) (W : Given
   abbrev v₁ : Val
   v₁ = sliceVal (book .ptr) (length s)
 
-  abbrev Book : Fml
-  Book = ShrSlice (named 0) κ u8 .own book (v₁ ∷ [])
+  abbrev BookLent : Fml
+  BookLent = ShrSlice (named 0) κ u8 .own book (v₁ ∷ [])
 
   -- What each callee is passed. `judge_table` and `record_at` name the book's lifetime as their first; `records_of` names none.
   abbrev pub to-judge : ℕ → Judge 𝓤 H A at-mem run .Ghost
@@ -66,18 +66,18 @@ module _ {M : Type 1} (𝓤 : URA M) (H : Heap 𝓤) (A : Atoms 𝓤) (W : Given
   to i = (((κ, tt), (q, tt), tt, (book, (i, tt)), (v₁ ∷ [], (vint w64 i ∷ [], tt))), tt)
 
   -- What each callee asks is there.
-  pub goes-judge : (room : ℕ) → room < 2 ^ 64 → ent 𝓤 (sep 𝓤 (A .lft κ q) (sem 𝓤 H A Book)) (Judge 𝓤 H A at-mem run .pre (to-judge room))
+  pub goes-judge : (room : ℕ) → room < 2 ^ 64 → ent 𝓤 (sep 𝓤 (A .lft κ q) (sem 𝓤 H A BookLent)) (Judge 𝓤 H A at-mem run .pre (to-judge room))
   goes-judge room fits =
-      qed W (‵ (flft κ q) ∷ ‵ Book ∷ []) ∵ nothing ! $ move ! (1 ∷ 0 ∷ []) $ join ! $ move ! (1 ∷ []) $
+      qed W (‵ (flft κ q) ∷ ‵ BookLent ∷ []) ∵ nothing ! $ move ! (1 ∷ 0 ∷ []) $ join ! $ move ! (1 ∷ []) $
       nothing ! $ owned ! usize (Is usize) (uint-makes 𝓤 H A W w64) room _ (refl, fits) $ fjoin ! $ move ! (1 ∷ 0 ∷ []) $ fjoin ! $ move ! (1 ∷ 0 ∷ []) $ join ! $ frame ! $ done !
 
   pub goes-records : (r : Loaded) (u : Val) → FewSummaries r → ent 𝓤 (sem 𝓤 H A (E.the-row .own r (u ∷ []))) (RecordsOf 𝓤 H A at-mem run .pre (to-records r u))
   goes-records r u asked =
       qed W (‵ (E.the-row .own r (u ∷ [])) ∷ []) ∵ says ! asked $ nothing ! $ frame ! $ nothing ! $ move ! (1 ∷ 0 ∷ []) $ fjoin ! $ done !
 
-  pub goes : (i : ℕ) → i < 2 ^ 64 → 14 + 12 * i ≤ length s → ent 𝓤 (sep 𝓤 (A .lft κ q) (sem 𝓤 H A Book)) (RecordAt 𝓤 H A at-mem run .pre (to i))
+  pub goes : (i : ℕ) → i < 2 ^ 64 → 14 + 12 * i ≤ length s → ent 𝓤 (sep 𝓤 (A .lft κ q) (sem 𝓤 H A BookLent)) (RecordAt 𝓤 H A at-mem run .pre (to i))
   goes i fits asked =
-      qed W (‵ (flft κ q) ∷ ‵ Book ∷ []) ∵ says ! asked $ nothing ! $ move ! (1 ∷ 0 ∷ []) $ join ! $ frame ! $
+      qed W (‵ (flft κ q) ∷ ‵ BookLent ∷ []) ∵ says ! asked $ nothing ! $ move ! (1 ∷ 0 ∷ []) $ join ! $ frame ! $
       nothing ! $ owned ! usize (Is usize) (uint-makes 𝓤 H A W w64) i _ (refl, fits) $ fjoin ! $ move ! (1 ∷ 0 ∷ []) $ fjoin ! $ done !
 
   -- What each callee has said afterwards.
