@@ -1,16 +1,7 @@
 pub mod Can
-pub mod Dominance
 pub mod Dominates
-pub mod Fewest
-pub mod Frame
 pub mod Going
 pub mod MapsAt
 pub mod Marked
-pub mod Moved
 pub mod Numbered
 pub mod Placed
-pub mod Placing
-pub mod Rewritten
-pub mod Sets
-pub mod Targets
-pub mod Works

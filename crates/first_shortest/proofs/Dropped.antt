@@ -11,7 +11,7 @@ use Rattle.spec.specs.Words.{Rule}
 use Rattle.spec.specs.Summaries.{Summaries}
 use Rattle.spec.proofs.Decided.Rows.{RowList}
 use Rattle.choice_theory.specs.Can.{CanBy}
-use Rattle.choice_theory.specs.Dominance.{drop-dominated}
+use Rattle.choice_theory.proofs.Dominance.{drop-dominated}
 use Rattle.bits.specs.Sets.{Has, without, Meets}
 use Rattle.bits.proofs.Laws.{or-cases}
 use Rattle.bits.proofs.Less.{without-out, without-in}

@@ -14,9 +14,10 @@ use Rattle.spec.specs.Summaries.{Summaries}
 use Rattle.spec.specs.BookLayout.{questionMost}
 use Rattle.choice_theory.specs.Can.{Can}
 use Rattle.choice_theory.specs.Going.{AtLeast}
-use Rattle.choice_theory.specs.Marked.{Marked, marked-start, marked-taken, marked-passed, marked-can}
-use Rattle.choice_theory.specs.Frame.{going-start, going-within, going-taken, going-passed, going-answer}
-use Rattle.choice_theory.specs.Fewest.{at-least-start, at-least-next, at-least-none}
+use Rattle.choice_theory.specs.Marked.{Marked}
+use Rattle.choice_theory.proofs.MarkedLaws.{marked-start, marked-taken, marked-passed, marked-can}
+use Rattle.choice_theory.proofs.Frame.{going-start, going-within, going-taken, going-passed, going-answer}
+use Rattle.choice_theory.proofs.Fewest.{at-least-start, at-least-next, at-least-none}
 use Rattle.bits.specs.Sets.{Has, with, without, first}
 use Rattle.bits.proofs.Laws.{has-none, with-new, with-old, with-cases}
 use Rattle.bits.proofs.Less.{without-is, first-in}

@@ -21,7 +21,7 @@ use Rattle.spec.proofs.Lists.At.{getD-in}
 use Rattle.containment.proofs.Carry.{terms-after, terms-same}
 use Rattle.containment.proofs.Suit.{terms-agree}
 use Rattle.choice_theory.specs.Numbered.{nothing, rowAt}
-use Rattle.choice_theory.specs.Targets.{place-uses}
+use Rattle.choice_theory.proofs.Targets.{place-uses}
 use Rattle.outcomes.specs.Bounds.{Bounds, RowsWithin}
 use Rattle.outcomes.proofs.Bounds.{fits-room, fits-alike}
 use Rattle.codes.specs.Code.{termCode, ownSlot}

@@ -12,7 +12,7 @@ use Rattle.choice_theory.specs.Numbered.{nothing, keptHead}
 use Rattle.choice_theory.specs.MapsAt.{MapsAt}
 use Rattle.choice_theory.specs.Can.{CanBy}
 use Rattle.choice_theory.specs.Placed.{PlacedInRows, rowOf, owners, AnyPair}
-use Rattle.choice_theory.specs.Placing.{placed-is}
+use Rattle.choice_theory.proofs.Placing.{placed-is}
 use Rattle.outcomes.specs.Bounds.{Bounds, RowsWithin}
 use Rattle.bits.specs.Sets.{Has}
 use Rattle.task.specs.Task.{Task, Sized}

@@ -11,7 +11,7 @@ use Rattle.spec.specs.Answer.{AtPlaces}
 use Rattle.spec.proofs.Lists.Counted.{place-in}
 use Rattle.containment.proofs.Places.{used}
 use Rattle.choice_theory.specs.Numbered.{keptHead}
-use Rattle.choice_theory.specs.Placing.{keeps-head}
+use Rattle.choice_theory.proofs.Placing.{keeps-head}
 use Rattle.outcomes.specs.Bounds.{Bounds, RowsWithin}
 use Rattle.outcomes.proofs.Bounds.{fits-room, fits-alike}
 use Rattle.codes.specs.Code.{ownCode}

@@ -16,7 +16,7 @@ use Rattle.spec.proofs.Lists.At.{getD-in, in-getD, rising-getD}
 use Rattle.spec.proofs.Decided.Rows.{RowList}
 use Rattle.containment.proofs.ListsOfRows.{AllRows, rows-back}
 use Rattle.choice_theory.specs.Numbered.{nothing, rowAt, rowsAt, Numbers, InRowList, WorksOn}
-use Rattle.choice_theory.specs.Works.{works-maps, maps-works}
+use Rattle.choice_theory.proofs.Works.{works-maps, maps-works}
 
 -- Rows that ascend with their numbers.
 module _ (rows : RowList) (rises : Rising RowBefore rows) where

@@ -15,11 +15,11 @@ use Rattle.spec.proofs.Lists.Counted.{counted, counted-in, counted-out, counted
 use Rattle.spec.proofs.Decided.Rows.{RowList}
 use Rattle.containment.proofs.Normal.{shorten}
 use Rattle.choice_theory.specs.Numbered.{rowAt, WorksOn}
-use Rattle.choice_theory.specs.Works.{works-more}
-use Rattle.choice_theory.specs.Rewritten.{works-rewrites, rewrites-numbers}
+use Rattle.choice_theory.proofs.Works.{works-more}
+use Rattle.choice_theory.proofs.Rewritten.{works-rewrites, rewrites-numbers}
 use Rattle.choice_theory.specs.Can.{Any, Can}
 use Rattle.choice_theory.specs.Going.{AtLeast, PassState}
-use Rattle.choice_theory.specs.Frame.{going-works}
+use Rattle.choice_theory.proofs.Frame.{going-works}
 
 module _ (s : Summaries) (q : Rule ℕ) (rows : RowList) where
   pub at-least-start : AtLeast s q rows 0

@@ -13,7 +13,7 @@ use Rattle.containment.proofs.Carry.{terms-after, carry, more}
 use Rattle.containment.proofs.Places.{used, in-use}
 use Rattle.containment.proofs.Expand.{extended}
 use Rattle.choice_theory.specs.Numbered.{rowAt, rowsAt, InRowList, InChosenUse, keptHead, WorksOn}
-use Rattle.choice_theory.specs.Moved.{renumbered}
+use Rattle.choice_theory.proofs.Moved.{renumbered}
 
 -- What keeps the old variables takes a mapping to a mapping.
 pub moved : (q : Rule ℕ) (ξ : Own ℕ → Term (Own ℕ)) {d d′ : Facts (Term (Own ℕ))} → ((x : ℕ) → ξ (old x) ≡ kept x) → ((c : Subgoal (Term (Own ℕ))) → d c → d′ (each (becomes con ξ) c))

@@ -7,7 +7,7 @@ use lib.ListN.{length}
 use Rattle.spec.specs.Words.{Rule}
 use Rattle.spec.specs.Summaries.{Summaries}
 use Rattle.choice_theory.specs.Numbered.{WorksOn}
-use Rattle.choice_theory.specs.Works.{works-more}
+use Rattle.choice_theory.proofs.Works.{works-more}
 use Rattle.choice_theory.specs.Can.{CanBy}
 use Rattle.spec.proofs.Lists.At.{none-in}
 use Rattle.spec.proofs.Decided.Rows.{RowList}

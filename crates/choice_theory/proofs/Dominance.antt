@@ -17,10 +17,10 @@ use Rattle.spec.proofs.Decided.Rows.{RowList}
 use Rattle.containment.proofs.Carry.{subgoal-same}
 use Rattle.containment.proofs.Expand.{extended}
 use Rattle.choice_theory.specs.Numbered.{nothing, rowAt, InChosenUse, WorksOn}
-use Rattle.choice_theory.specs.Moved.{same-use}
-use Rattle.choice_theory.specs.Works.{moved}
+use Rattle.choice_theory.proofs.Moved.{same-use}
+use Rattle.choice_theory.proofs.Works.{moved}
 use Rattle.choice_theory.specs.Can.{CanBy}
-use Rattle.choice_theory.specs.Sets.{can-more}
+use Rattle.choice_theory.proofs.Sets.{can-more}
 use Rattle.choice_theory.specs.Dominates.{Dominates}
 
 -- Dominance by places in the two uses.

@@ -15,10 +15,10 @@ use Rattle.spec.proofs.Lists.At.{getD-in, in-getD, choices, passing-split}
 use Rattle.spec.proofs.Decided.Rows.{RowList}
 use Rattle.containment.proofs.Suit.{terms-agree}
 use Rattle.choice_theory.specs.Numbered.{nothing, rowAt, InChosenUse, keptHead}
-use Rattle.choice_theory.specs.Works.{works-more}
+use Rattle.choice_theory.proofs.Works.{works-more}
 use Rattle.choice_theory.specs.Can.{Either, CanBy}
 use Rattle.choice_theory.specs.Placed.{targets, rowOf, AnyPair, PlacedInRows}
-use Rattle.choice_theory.specs.Targets.{joined-at, at-joined, uses-place, place-uses}
+use Rattle.choice_theory.proofs.Targets.{joined-at, at-joined, uses-place, place-uses}
 
 -- Head to head: each variable of the head becomes itself, an old one.
 pub keeps-head : (q : Rule ℕ) (value : ℕ → Term (Own ℕ)) → (map (becomes con value) (q .head) ≡ keptHead q) ↔ ((x : ℕ) → var x ∈ q .head → value x ≡ var (old x))

@@ -13,7 +13,7 @@ use Rattle.spec.proofs.Lists.Strict.{numbers-compare}
 use Rattle.spec.proofs.Lists.Rising.{Rising, rising-append, rising-right}
 use Rattle.spec.proofs.Lists.Enumerate.{Enumerates}
 use Rattle.choice_theory.specs.Numbered.{rowAt, rowsAt, Numbers, InRowList, WorksOn}
-use Rattle.choice_theory.specs.Rewritten.{rowsAt-before, works-rewrites, rewrites-numbers}
+use Rattle.choice_theory.proofs.Rewritten.{rowsAt-before, works-rewrites, rewrites-numbers}
 use Rattle.choice_theory.specs.Can.{Can}
 use Rattle.choice_theory.specs.Going.{AtLeast, BeginsWith, Past, PassState}
 use Rattle.spec.proofs.Lists.At.{empty}

@@ -1,0 +1,10 @@
+pub mod Dominance
+pub mod Fewest
+pub mod Frame
+pub mod MarkedLaws
+pub mod Moved
+pub mod Placing
+pub mod Rewritten
+pub mod Sets
+pub mod Targets
+pub mod Works
