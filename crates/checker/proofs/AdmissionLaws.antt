@@ -12,7 +12,7 @@ use Rattle.spec.specs.BookLayout.{SoundBook}
 use Rattle.spec.specs.Contents.{count}
 use Rattle.spec.proofs.Bytes.BookStands.{book-count}
 use Rattle.spec.proofs.Lists.Tests.{says-both}
-use Rattle.outcomes.proofs.AsRule.{width-is}
+use Rattle.spec.proofs.Bytes.HeadLengths.{width-is}
 use Rattle.admission.specs.Admission.{HasSummary, AdmissionSays}
 use Rattle.admission.proofs.Standing.{standing}
 use Rattle.book_codes.specs.Question.{SomeSound}

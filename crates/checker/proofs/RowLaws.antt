@@ -19,8 +19,8 @@ use Rattle.spec.proofs.Bytes.RuleLaws.{layout-unique}
 use Rattle.spec.proofs.Bytes.BookPasses.{question-reads}
 use Rattle.spec.proofs.Lists.At.{getD-in, in-getD}
 use Rattle.spec.proofs.Lists.Tests.{says-both}
+use Rattle.spec.proofs.Bytes.HeadLengths.{width-is, laid-out}
 use Rattle.choice_theory.specs.Numbered.{nothing}
-use Rattle.outcomes.proofs.AsRule.{width-is, laid-out}
 use Rattle.codes.specs.Code.{termCode, codesOf}
 use Rattle.codes.proofs.Padded.{codes-length}
 use Rattle.rule_codes.specs.Laid.{LaidFor}

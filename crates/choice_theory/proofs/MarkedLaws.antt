@@ -5,7 +5,7 @@ use mathlib.Core.List.{List, [], _∷_, _++_, List·Memᴰ·head, List·Memᴰ·
 use Prim.Native.Nat.{ℕ, _+_, _≤_, _<_}
 use native.Mathlib.Omega.{arith}
 use lib.ListN.{length}
-use Rattle.spec.specs.Words.{_∈_, Rule}
+use Rattle.spec.specs.Words.{Rule}
 use Rattle.spec.specs.Summaries.{Summaries}
 use Rattle.spec.proofs.Lists.Strict.{numberOrder}
 use Rattle.spec.proofs.Lists.Sorted.{sorted, sorted-in, sorted-out, sorted-rising}

@@ -1,20 +1,20 @@
 -- What has been seen of the source subgoals before i, exactly.
 use mathlib.Core.Bool.{true, false, true≢false}
-use mathlib.Core.Path.{_≡_, refl, sym, subst, _∙_}
+use mathlib.Core.Path.{_≡_, refl, sym, subst}
 use mathlib.Core.Logic.{_⊎_, inl, inr, ⊎-elim, _↔_}
 use mathlib.Core.List.{List}
 use Prim.Native.Nat.{ℕ, suc, _+_, _*_, _<_, _≤_}
 use native.Mathlib.Omega.{arith}
 use native.Mathlib.Decide.{ℕ-discrete}
 use native.Mathlib.Nat.{mul-le-mul-left}
-use lib.ListN.{getD, replicate, getD-replicate}
+use lib.ListN.{getD, getD-replicate}
 use lib.Bits.{bitOr}
 use Rattle.bits.specs.Sets.{Has, Meets}
 use Rattle.bits.proofs.Laws.{has-none, or-either, or-cases, same-members}
-use Rattle.task.specs.Task.{Task, Sized, goals, targets, rowOf}
+use Rattle.task.specs.Task.{Task, Sized, goals}
 use Rattle.lookahead.specs.declared.reasons.Rows.{Rows}
-use Rattle.lookahead.specs.Outlook.{SameUse, UseEnd, HasTarget, Offers, SlotOf, SlotsOf, memberOf, noWants, Wanting, Most, fairly, vainly}
-use Rattle.lookahead.specs.Seen.{CountBelow, none, counted, passed, NoRowFor, WantsRow, ServedBy, TooManyWant, WantedSlot, Seen, closed, alone, together, fair}
+use Rattle.lookahead.specs.Outlook.{SameUse, UseEnd, HasTarget, Offers, SlotsOf, memberOf, noWants, Wanting, Most, fairly, vainly}
+use Rattle.lookahead.specs.Seen.{CountBelow, counted, passed, NoRowFor, WantsRow, ServedBy, WantedSlot, Seen, alone, together, fair}
 use Rattle.lookahead.specs.declared.Wants.{Wants}
 use Rattle.lookahead.proofs.Counting.{count-once, count-none, count-to}
 

@@ -1,13 +1,13 @@
 -- Why a search is seen to be in vain: a source subgoal of the same use that no row has a target for, or too many that want a row not yet in use.
 use mathlib.Core.Bool.{Bool, true, false, false≢true}
-use mathlib.Core.Path.{_≡_, refl, ap, sym, subst, _∙_, fun-ext}
+use mathlib.Core.Path.{_≡_, refl, sym, subst, _∙_, fun-ext}
 use mathlib.Core.Logic.{_⊎_, inl, inr, ⊎-elim}
 use mathlib.Core.List.{List, [], _∷_, List·Memᴰ·head, List·Memᴰ·tail}
 use Prim.Native.Nat.{ℕ, zero, suc, _+_, _-_, _*_, _<_, _≤_}
 use native.Mathlib.Omega.{arith}
 use native.Mathlib.Nat.{mul-le-mul-right}
 use native.Mathlib.Decide.{decLt}
-use lib.ListN.{length, getD, replicate, getD-replicate, length-replicate, List·getD-eq-default}
+use lib.ListN.{length, getD, getD-replicate, length-replicate, List·getD-eq-default}
 use lib.Bits.{bitOr}
 use Rattle.spec.specs.Words.{_∈_}
 use Rattle.bits.specs.Sets.{Has, Meets}
@@ -18,7 +18,7 @@ use Rattle.task.specs.Terms.{stood}
 use Rattle.task.proofs.Slots.{value-code, stood-code, stood-value}
 use Rattle.lookahead.specs.Taking.{Affords, Open}
 use Rattle.lookahead.specs.Failure.{AgreesOn, Failed}
-use Rattle.lookahead.specs.Outlook.{UseEnd, SuitsTarget, HasTarget, Readable, Offers, SlotOf, SlotsOf, memberOf, Steady, Wanting, Most, noWants, fairly, vainly}
+use Rattle.lookahead.specs.Outlook.{UseEnd, SuitsTarget, Readable, Offers, SlotsOf, memberOf, Steady, Wanting, Most, noWants, fairly, vainly}
 use Rattle.lookahead.specs.Seen.{Seen, LookSays}
 use Rattle.lookahead.specs.declared.reasons.Rows.{Rows}
 use Rattle.lookahead.specs.declared.Wants.{Wants}

@@ -58,8 +58,7 @@ module _ {relations bytes target own : List ℕ} {found area : ℕ} (w : Summary
     task-of v q p = record {
       codes = λ i. record { source = source-is i; widths = widths-is i; lasts = lasts-is i; target = p .onto .codes i; own = p .onto .marks i };
       long = sym (heads .is relations 8 v (p .summary .layout));
-      terms = p .onto .all .all;
-      few = p .onto .all .few;
+      terms = p .onto .all;
       arities = relations;
       relations = p .known;
       summary = p .summary .layout .within;

@@ -16,9 +16,9 @@ use Rattle.rule_codes.specs.BodyTerms.{CodeOf, BodyTerms}
 use Rattle.rule_codes.specs.Laid.{LaidFor, QuestionLaid}
 use Rattle.rule_codes.specs.Promises.{BodyCodes}
 use Rattle.rule_codes.proofs.Stores.{front-length, front-again}
-use Rattle.summary_rows.specs.RowTask.{alone}
+use Rattle.summary_rows.specs.RowTask.{alone, TermsOf}
 use Rattle.row_list.specs.Alone.{aloneCodes}
-use Rattle.row_list.specs.Tasks.{TermsOf, TargetCodes}
+use Rattle.row_list.specs.Tasks.{TargetCodes}
 use Rattle.row_list.proofs.AloneLaws.{alone-codes}
 use Rattle.row_list.proofs.Behind.{mid-long, behind}
 use Rattle.spec.proofs.Lists.Parts.{part-long}

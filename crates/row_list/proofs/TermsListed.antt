@@ -22,7 +22,7 @@ use Rattle.search_meaning.specs.Coded.{TermIn}
 use Rattle.search_meaning.specs.Codings.{readTerm}
 use Rattle.search_meaning.proofs.Read.{read-term}
 use Rattle.summary_rows.proofs.Unique.Rows.{enumerates-once}
-use Rattle.row_list.specs.Tasks.{TermsOf}
+use Rattle.summary_rows.specs.RowTask.{TermsOf}
 
 abbrev termsIn : List (Subgoal (Term ℕ)) → List (Term ℕ)
 termsIn gs = gather (λ g. g .terms) gs

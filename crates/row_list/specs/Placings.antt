@@ -8,10 +8,10 @@ use Rattle.spec.specs.RuleLayout.{RuleWithin}
 use Rattle.spec.specs.BookLayout.{Arities, questionMost}
 use Rattle.spec.specs.Table.{mostRows}
 use Rattle.codes.specs.Code.{termCode, codesOf, subgoalSize}
-use Rattle.summary_rows.specs.RowTask.{onto}
+use Rattle.summary_rows.specs.RowTask.{onto, TermsOf}
 use Rattle.summary_rows.specs.RowsAfter.{RowsAfter}
 use Rattle.summary_rows.specs.declared.Tally.{Tally}
-use Rattle.row_list.specs.Tasks.{SummaryIs, TermsOf}
+use Rattle.row_list.specs.Tasks.{SummaryIs}
 
 -- The target's codes, and a 0 for each: they are all of one row, which is in use.
 pub record TargetIs (q : Rule ℕ) (target own : List ℕ) : Type 0 where

@@ -1,17 +1,14 @@
 -- What stands where the rows of one summary are asked for: its head's places and its body as the source, the question's terms and its body as the target.
 use mathlib.Core.Path.{_≡_}
 use mathlib.Core.List.{List, map}
-use Prim.Native.Nat.{ℕ, _+_, _*_, _≤_}
+use Prim.Native.Nat.{ℕ, _+_, _*_}
 use lib.ListN.{length, replicate}
 use Rattle.spec.specs.Words.{Term, Rule, DistinctVariables}
-use Rattle.spec.specs.Order.{TermBefore}
 use Rattle.spec.specs.RuleLayout.{Layout, mostHead}
 use Rattle.spec.specs.BookLayout.{questionMost, summaryMost, mostArity}
 use Rattle.spec.specs.Given.{atFront}
-use Rattle.spec.proofs.Lists.Enumerate.{Enumerates}
 use Rattle.codes.specs.Code.{termCode, slotCode, codesOf, widthsOf}
-use Rattle.search_meaning.specs.Coded.{TermIn}
-use Rattle.summary_rows.specs.RowTask.{placed, onto}
+use Rattle.summary_rows.specs.RowTask.{placed, onto, TermsOf}
 
 -- A source has a place for each term of a summary's head, and its subgoals; a target each term of the question, and its subgoals.
 abbrev pub sourceMost : ℕ
@@ -38,12 +35,6 @@ pub record SourceCodes (relations bytes before after old new : List ℕ) (n : �
   pub count : (v : Rule ℕ) → SummaryIs relations bytes v → n ≡ length (placed v)
   pub codes : (v : Rule ℕ) → SummaryIs relations bytes v → after ≡ atFront (codesOf slotCode (placed v)) before
   pub widths : (v : Rule ℕ) → SummaryIs relations bytes v → new ≡ atFront (widthsOf (placed v)) old
-
--- The question's terms, "Variables sort before constants, each by number", each once.
-pub record TermsOf (q : Rule ℕ) (ts : List (Term ℕ)) : Type 0 where
-  pub all : Enumerates (λ t. TermIn t (q .body)) TermBefore ts
-  -- 12 subgoals of at most 8 terms
-  pub few : length ts ≤ mostArity * questionMost
 
 -- The target's codes at the front of an area; n targets.
 pub record TargetCodes (relations bytes before after : List ℕ) (n : ℕ) : Type 0 where

@@ -159,7 +159,7 @@ module _ (v q : Rule ℕ) (ts : List (Term ℕ)) (p : Task) (h : ℕ) (w : TaskO
         here = term-at slotCode (placed v) (h + m) a (con 0) source-long room-at fits ∙ ap (λ (k : Subgoal (Term ℕ)). slotCode (getD (k .terms) a (con 0))) source-at ∙ ap slotCode (term .2)
 
     known : (k : ℕ) × (k < length ts) × (getD ts k (con 0) ≡ u)
-    known = in-getD (con 0) ts (w .terms .complete u (d, d-in, getD-in (con 0) (d .terms) a wide))
+    known = in-getD (con 0) ts (w .terms .all .complete u (d, d-in, getD-in (con 0) (d .terms) a wide))
 
     covered : (k : ℕ) × (k < targets t) × Agrees t b i k
     covered = (

@@ -34,7 +34,7 @@ module _ (n : ℕ) (v q : Rule ℕ) (ts : List (Term ℕ)) (p : Task) (h : ℕ) 
             let b = back g y in
             ⊎-elim
             (λ e. inl (same-row (r .0) g (b .3) (stand-same ts js (r .0) (g .terms) (r .1) (subst (λ l. Stand ts l (g .terms)) (sym e) (b .2)))))
-            (λ k. inr (inr (sym (b .3), stand-before ts (w .terms .rising) js (b .0) (r .0) (g .terms) (r .1) (b .2) k)))
+            (λ k. inr (inr (sym (b .3), stand-before ts (w .terms .all .rising) js (b .0) (r .0) (g .terms) (r .1) (b .2) k)))
             (f .least (b .0) (b .1))
 
   pub start-row : (js : List ℕ) → First (RowPlaces p h) (ListBefore _<_) js → (row : List (Term ℕ)) × Stand ts js row × First (RowBy n v q) RowBefore (asRow n row)
@@ -53,7 +53,7 @@ module _ (n : ℕ) (v q : Rule ℕ) (ts : List (Term ℕ)) (p : Task) (h : ℕ) 
     later-places : (g : Subgoal (Term ℕ)) → RowAfter row g → (js : List ℕ) × LaterPlaces p h ks js × Stand ts js (g .terms) × (g .relation ≡ n)
     later-places g y =
         let j = row-in v q ts p h w (g .terms) (y .0 .yields) in
-        (j .0, record { row = j .1; after = before-stand ts (w .terms .rising) (take h ks) (j .0) row (g .terms) s (j .2) (terms (y .1)) }, j .2, y .0 .number)
+        (j .0, record { row = j .1; after = before-stand ts (w .terms .all .rising) (take h ks) (j .0) row (g .terms) s (j .2) (terms (y .1)) }, j .2, y .0 .number)
       where
         terms : RowBefore (asRow n row) g → ListBefore Rattle.spec.specs.Order.TermBefore row (g .terms)
         terms (inl l) = absurd (omega (arith, y .0 .number))
@@ -61,7 +61,7 @@ module _ (n : ℕ) (v q : Rule ℕ) (ts : List (Term ℕ)) (p : Task) (h : ℕ) 
 
     pub next-row : (js : List ℕ) → First (LaterPlaces p h ks) (ListBefore _<_) js → (row′ : List (Term ℕ)) × Stand ts js row′ × First (RowAfter row) RowBefore (asRow n row′)
     next-row = first-row (LaterPlaces p h ks) (RowAfter row)
-        (λ js y. let r = row-out v q ts p h w js (y .row) in (r .0, r .1, (record { number = refl; yields = r .2 }, inr (refl, stand-before ts (w .terms .rising) (take h ks) js row (r .0) s (r .1) (y .after)))))
+        (λ js y. let r = row-out v q ts p h w js (y .row) in (r .0, r .1, (record { number = refl; yields = r .2 }, inr (refl, stand-before ts (w .terms .all .rising) (take h ks) js row (r .0) s (r .1) (y .after)))))
         later-places
 
     pub next-empty : ((js : List ℕ) → LaterPlaces p h ks js → ⊥) → (g : Subgoal (Term ℕ)) → RowAfter row g → ⊥

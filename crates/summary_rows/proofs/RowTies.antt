@@ -55,7 +55,7 @@ module _ (v q : Rule ℕ) (ts : List (Term ℕ)) (p : Task) (h : ℕ) (w : TaskO
       let a = Memᴰ·of-map (becomes con σ) (v .head) m in
       let x = variable (v .head) (w .plain) (a .0) (a .1) in
       let g = w .safe (x .0) (subst (λ u. u ∈ v .head) (x .1) (a .1)) in
-      w .terms .complete t (each (becomes con σ) (g .0), holds (g .0) (g .1), Memᴰ·cast (sym (a .2) ∙ ap (becomes con σ) (x .1)) (Memᴰ·map (becomes con σ) (g .2)))
+      w .terms .all .complete t (each (becomes con σ) (g .0), holds (g .0) (g .1), Memᴰ·cast (sym (a .2) ∙ ap (becomes con σ) (x .1)) (Memᴰ·map (becomes con σ) (g .2)))
 
   pub row-in : (row : List (Term ℕ)) → Yields con v (Listed (q .body)) row → (js : List ℕ) × RowPlaces p h js × Stand ts js row
   row-in row y =

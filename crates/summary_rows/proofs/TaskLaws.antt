@@ -48,7 +48,7 @@ module _ (v q : Rule ℕ) (ts : List (Term ℕ)) (p : Task) (h : ℕ) (w : TaskO
   question-within t i = w .question .body (i .0) (i .1) t (i .2)
 
   target-within : (t : Term ℕ) → TermIn t (onto ts q) → TermWithin t
-  target-within = in-parts ts (q .body) TermWithin (λ t m. question-within t (w .terms .sound t m)) question-within
+  target-within = in-parts ts (q .body) TermWithin (λ t m. question-within t (w .terms .all .sound t m)) question-within
 
   pub alike : (g k : Subgoal (Term ℕ)) → g ∈ placed v → k ∈ onto ts q → g .relation ≡ k .relation → length (g .terms) ≡ length (k .terms)
   alike g k m n e = ⊎-elim
@@ -85,7 +85,7 @@ module _ (v q : Rule ℕ) (ts : List (Term ℕ)) (p : Task) (h : ℕ) (w : TaskO
   pub small : SmallTask termCoding (placed v) (replicate (length (placed v)) 0) (onto ts q) (replicate (length (onto ts q)) 0)
   small = record {
     few = omega (arith, placed-long, w .long, w .summary .short, w .summary .few);
-    many = omega (arith, onto-long, w .few, w .question .few);
+    many = omega (arith, onto-long, w .terms .few, w .question .few);
     room = room;
     marked = length-replicate {A = ℕ} (length (placed v)) 0;
     rows = length-replicate {A = ℕ} (length (onto ts q)) 0;

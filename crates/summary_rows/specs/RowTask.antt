@@ -29,13 +29,17 @@ onto ts q = map alone ts ++ q .body
 abbrev pub rowTask : Rule ℕ → Rule ℕ → List (Term ℕ) → Task
 rowTask v q ts = task slotNaming termCoding (placed v) (replicate (length (placed v)) 0) (onto ts q) (replicate (length (onto ts q)) 0)
 
+-- The question's terms, "Variables sort before constants, each by number", each once.
+pub record TermsOf (q : Rule ℕ) (ts : List (Term ℕ)) : Type 0 where
+  pub all : Enumerates (λ t. TermIn t (q .body)) TermBefore ts
+  -- 12 subgoals of at most 8 terms
+  pub few : length ts ≤ mostArity * questionMost
+
 -- The task is that of a sound summary v and a sound question q, over the terms of the question's body in ascending order, each once; the head has h places.
 pub record TaskOf (v q : Rule ℕ) (ts : List (Term ℕ)) (p : Task) (h : ℕ) : Type 0 where
   pub codes : p ≡ rowTask v q ts
   pub long : length (v .head) ≡ h
-  pub terms : Enumerates (λ t. TermIn t (q .body)) TermBefore ts
-  -- 12 subgoals of at most 8 terms
-  pub few : length ts ≤ mostArity * questionMost
+  pub terms : TermsOf q ts
   pub arities : List ℕ
   pub relations : Arities arities
   pub summary : RuleWithin arities summaryMost v

@@ -21,52 +21,52 @@ replicate-in zero a h = absurd (omega arith)
 replicate-in (suc n) a h = List·Memᴰ·head refl
 
 -- So many variables, each once.
-abbrev variables : ℕ → List (Term ℕ)
-variables zero = []
-variables (suc k) = var k ∷ variables k
+abbrev firstVariables : ℕ → List (Term ℕ)
+firstVariables zero = []
+firstVariables (suc k) = var k ∷ firstVariables k
 
-variables-many : (k : ℕ) → length (variables k) ≡ k
+variables-many : (k : ℕ) → length (firstVariables k) ≡ k
 variables-many zero = refl
 variables-many (suc k) = ap suc (variables-many k)
 
-variable-less : (k x : ℕ) → var x ∈ variables k → x < k
+variable-less : (k x : ℕ) → var x ∈ firstVariables k → x < k
 variable-less zero x m = absurd (List·Memᴰ·not-nil m)
 variable-less (suc k) x (List·Memᴰ·head e) = let same : x ≡ k = cc in omega arith
 variable-less (suc k) x (List·Memᴰ·tail m) = let less = variable-less k x m in omega arith
 
-variable-in : (k x : ℕ) → x < k → var x ∈ variables k
+variable-in : (k x : ℕ) → x < k → var x ∈ firstVariables k
 variable-in zero x h = absurd (omega arith)
 variable-in (suc k) x h = go (ℕ-discrete x k) (variable-in k x)
   where
-    go : Dec (x ≡ k) → (x < k → var x ∈ variables k) → var x ∈ (var k ∷ variables k)
+    go : Dec (x ≡ k) → (x < k → var x ∈ firstVariables k) → var x ∈ (var k ∷ firstVariables k)
     go (yes e) below = List·Memᴰ·head (ap var e)
     go (no f) below = List·Memᴰ·tail (below (omega arith))
 
-variables-within : (k : ℕ) → k ≤ 32 → TermsWithin (variables k)
+variables-within : (k : ℕ) → k ≤ 32 → TermsWithin (firstVariables k)
 variables-within zero h t m = absurd (List·Memᴰ·not-nil m)
 variables-within (suc k) h t (List·Memᴰ·head e) = rw e (omega arith)
 variables-within (suc k) h t (List·Memᴰ·tail m) = variables-within k (omega arith) t m
 
-variables-distinct : (k : ℕ) → DistinctVariables (variables k)
+variables-distinct : (k : ℕ) → DistinctVariables (firstVariables k)
 variables-distinct zero = tt
 variables-distinct (suc k) = (λ m. let less = variable-less k k m in omega arith, variables-distinct k)
 
 -- The rule with a head of h variables and so many subgoals of k variables.
 abbrev subgoalOf : ℕ → Subgoal (Term ℕ)
-subgoalOf k = record { relation = 0; terms = variables k }
+subgoalOf k = record { relation = 0; terms = firstVariables k }
 
-abbrev ruleOf : ℕ → ℕ → ℕ → Rule ℕ
-ruleOf h k many = record { head = variables h; body = replicate many (subgoalOf k) }
+abbrev sizedRule : ℕ → ℕ → ℕ → Rule ℕ
+sizedRule h k many = record { head = firstVariables h; body = replicate many (subgoalOf k) }
 
 abbrev summaryOf : ℕ → ℕ → ℕ → Summary
-summaryOf h k many = record { stamp = 0; rule = ruleOf h k many }
+summaryOf h k many = record { stamp = 0; rule = sizedRule h k many }
 
 -- A book of such rules: how many relations, how long its heads and its rows, how many subgoals its question and its summaries have, how many summaries.
 bookOf : ℕ → ℕ → ℕ → ℕ → ℕ → ℕ → Book
 bookOf relations h k question summary n = record {
   arities = replicate relations k;
   need = 0;
-  question = ruleOf h k question;
+  question = sizedRule h k question;
   summaries = replicate n (summaryOf h k summary);
 }
 
@@ -84,7 +84,7 @@ record Shape (relations h k question summary n : ℕ) : Type 0 where
   all : n ≤ mostSummaries
 
 module _ (relations h k question summary n : ℕ) (b : Shape relations h k question summary n) where
-  rule-within : (many most : ℕ) → 1 ≤ many → many ≤ most → RuleWithin (replicate relations k) most (ruleOf h k many)
+  rule-within : (many most : ℕ) → 1 ≤ many → many ≤ most → RuleWithin (replicate relations k) most (sizedRule h k many)
   rule-within many most l m = record {
     short = let u = b .short in omega (arith, variables-many h);
     some = omega (arith, length-replicate many (subgoalOf k));
@@ -97,7 +97,7 @@ module _ (relations h k question summary n : ℕ) (b : Shape relations h k quest
       fits : Fits (replicate relations k) (subgoalOf k)
       fits = record { known = let u = b .some in omega (arith, length-replicate relations k); long = variables-many k ∙ sym (getD-replicate relations 0 k 0 (b .some)) }
 
-  rule-safe : (many : ℕ) → 1 ≤ many → Safe (ruleOf h k many)
+  rule-safe : (many : ℕ) → 1 ≤ many → Safe (sizedRule h k many)
   rule-safe many l x m = (subgoalOf k, replicate-in many (subgoalOf k) l, variable-in k x (let less = variable-less h x m in let u = b .safe in omega arith))
 
   summary-sound : SoundSummary (replicate relations k) (summaryOf h k summary)

@@ -1,17 +1,16 @@
 -- Whether the checker says yes, as a test: the rewriting read as a rule over the summaries' heads, and the witness sought among all that there are.
-use mathlib.Core.Path.{_≡_, refl, sym, ap, _∙_, subst}
-use mathlib.Core.Bool.{Bool, true, false, _&&_}
-use mathlib.Core.Option.{Option, some, none, Option·none-ne-some, Option·some-injective}
-use mathlib.Core.List.{List, [], _∷_, _++_, map, Memᴰ·cast, Memᴰ·map, Memᴰ·of-map}
-use Prim.Native.Nat.{ℕ, zero, suc, _<_}
-use native.Mathlib.Omega.{arith}
-use lib.ListN.{length, getD, length-map}
+use mathlib.Core.Path.{_≡_, refl, sym, subst}
+use mathlib.Core.Bool.{Bool, false, _&&_}
+use mathlib.Core.Option.{Option, some, none}
+use mathlib.Core.List.{List, _++_, map, Memᴰ·cast, Memᴰ·map, Memᴰ·of-map}
+use Prim.Native.Nat.{ℕ}
+use lib.ListN.{length}
 use lib.Dec.{T, eqb, eqb→eq}
-use Rattle.spec.specs.Words.{_∈_, Term, Subgoal, Rule, Fits}
+use Rattle.spec.specs.Words.{_∈_, Term, Subgoal, Rule}
 use Rattle.spec.specs.Summaries.{summary, Over}
 use Rattle.spec.specs.Answer.{There, Back}
 use Rattle.spec.specs.Refresh.{admitted}
-use Rattle.spec.specs.Book.{Summary, Book, ifTrue, admittedOf}
+use Rattle.spec.specs.Book.{Book, admittedOf}
 use Rattle.spec.specs.Numbers.{Bytes}
 use Rattle.spec.specs.RuleLayout.{Layout, ruleBytes}
 use Rattle.spec.specs.BookLayout.{SoundBook, questionMost}
@@ -24,22 +23,7 @@ use Rattle.spec.proofs.Decided.WitnessTest.{isOne, one-sound, one-compl
 use Rattle.spec.proofs.Bytes.RuleReading.{Read, got, bad, readRule}
 use Rattle.spec.proofs.Bytes.RuleLaws.{read-layout, layout-read}
 use Rattle.spec.proofs.Bytes.BookUnique.{book-unique}
-use Rattle.spec.proofs.Bytes.HeadLengths.{headLengths}
-
-abbrev widths : List Summary → List ℕ
-widths ms = map (λ (m : Summary). length (m .rule .head)) ms
-
--- an admitted summary is one of the book's, and as wide as the table says
-width : (need : ℕ) (ms : List Summary) (n : ℕ) (r : Rule ℕ) → summary (map (λ m. ifTrue (admitted need (m .stamp) (m .rule)) (m .rule)) ms) n ≡ some r
-    → (n < suc (length ms)) × (getD (0 ∷ widths ms) n 0 ≡ length (r .head))
-width need [] n r e = absurd (Option·none-ne-some r e)
-width need (m ∷ ms) zero r e = absurd (Option·none-ne-some r e)
-width need (m ∷ ms) (suc zero) r e = (omega arith, go (admitted need (m .stamp) (m .rule)) e)
-  where
-    go : (b : Bool) → ifTrue b (m .rule) ≡ some r → length (m .rule .head) ≡ length (r .head)
-    go true p = ap (λ (x : Rule ℕ). length (x .head)) (Option·some-injective (m .rule) r p)
-    go false p = absurd (Option·none-ne-some r p)
-width need (m ∷ ms) (suc (suc n)) r e = let w = width need ms (suc n) r e in (omega (arith, w .0), w .1)
+use Rattle.spec.proofs.Bytes.HeadLengths.{headLengths, laid-out}
 
 module _ (b : Book) where
   -- a subgoal over an admitted summary, as long as its head
@@ -112,22 +96,10 @@ module _ (b : Book) where
             home = Memᴰ·of-map (λ back. way .0 ++ back) (backs (admittedOf b) (b .question) r) (way .2)
 
     module _ (r : Rule ℕ) (is : RewritingRule b r) where
-      fits : (g : Subgoal (Term ℕ)) → g ∈ r .body → Fits (headLengths b) g
-      fits g m =
-          let o = is .over g m in
-          let w = width (b .need) (b .summaries) (g .relation) (o .rule) (o .admitted) in
-          record { known = omega (arith, w .0, length-map (b .summaries) (λ (m : Summary). length (m .rule .head))); long = o .long ∙ sym (w .1) }
-
-      laid-out : ruleBytes r ≡ rewriting → Layout (headLengths b) questionMost rewriting r
-      laid-out e = record {
-        within = record { short = rw (is .head) (sound .value .question .within .short); some = is .some; few = is .few; head = rw (is .head) (sound .value .question .within .head); fit = fits; body = is .within };
-        written = e;
-      }
-
       complete-at : ruleBytes r ≡ rewriting → (there back : List ℕ) → witness ≡ there ++ back → There (admittedOf b) (b .question) r there → Back (admittedOf b) (b .question) r back → T (isTrue rewriting witness)
       complete-at e there back whole goes returns =
           let one : (there ++ back) ∈ allWitnesses r = gather-in (withBacks r) (theres (admittedOf b) (b .question) r) (theres-enumerate (admittedOf b) (b .question) r .complete there goes) (Memᴰ·map (λ back. there ++ back) (backs-enumerate (admittedOf b) (b .question) r .complete back returns)) in
-          rw (read-layout (headLengths b) questionMost rewriting r (laid-out e)) (and-both (every over (r .body) && sameHead r) (isOne witness (allWitnesses r))
+          rw (read-layout (headLengths b) questionMost rewriting r (rw e at (laid-out b sound r is))) (and-both (every over (r .body) && sameHead r) (isOne witness (allWitnesses r))
           (and-both (every over (r .body)) (sameHead r) (every-complete over (r .body) (λ g m. over-complete g (is .over g m))) (eq-test (eqList (eqTerm eqNumber)) (r .head) (b .question .head) (is .head)))
           (one-complete witness (allWitnesses r) (Memᴰ·cast whole one)))
 
