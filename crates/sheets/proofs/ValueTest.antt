@@ -1,4 +1,4 @@
--- Whether bytes are a book of words' table of values and what is said of them is what is said there, as tests.
+-- Whether bytes are a book of the table of values and what is said of them is what is said there, as tests.
 use mathlib.Core.Bool.{Bool, true, false, _&&_}
 use mathlib.Core.Option.{Option, some, none}
 use mathlib.Core.List.{List}

@@ -32,7 +32,7 @@ pub record Fault9 (s : Summaries) (q : Rule ℕ) : Type 0 where
   pub ascending : Ascending rows
   pub many : mostRows < length rows
 
--- "no equivalent rewriting" (of summary rows: by theory's any-rewriting, none of any kind then)
+-- "no equivalent rewriting" (of summary rows: by containment's `any-rewriting`, none of any kind then)
 abbrev pub Fault10 : Summaries → Rule ℕ → Type 0
 Fault10 s q = (l : List (Subgoal (Term ℕ))) → Rewrites s q l → ⊥
 

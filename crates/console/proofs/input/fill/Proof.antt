@@ -1,4 +1,4 @@
--- `input::fill` meets its contract: what was read into a part counts bytes of the whole.
+-- `console::input::fill` meets its contract: what was read into a part counts bytes of the whole.
 use mathlib.Core.Path.{sym}
 use mathlib.Core.List.{List}
 use Prim.Native.Nat.{ℕ, _≤_}

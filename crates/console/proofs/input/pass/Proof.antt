@@ -1,4 +1,4 @@
--- `input::pass` is safe and ends: the scrap keeps its length, so that it can be lent again, and what is left to pass falls.
+-- `console::input::pass` is safe and ends: the scrap keeps its length, so that it can be lent again, and what is left to pass falls.
 use mathlib.Core.Path.{_≡_}
 use lib.ListN.{length}
 use borrow.Author.Needs.{needs}

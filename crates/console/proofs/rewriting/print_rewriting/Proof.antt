@@ -1,4 +1,4 @@
--- `showing::rewriting::print_rewriting` is safe and ends: the subgoals that are left fall, and no place is far.
+-- `console::rewriting::print_rewriting` is safe and ends: the subgoals that are left fall, and no place is far.
 use Prim.Native.Nat.{_+_, _*_, _≤_, _-_}
 use borrow.Author.Needs.{needs}
 use Rattle.console.proofs.rewriting.print_rewriting.Statement.{statement}

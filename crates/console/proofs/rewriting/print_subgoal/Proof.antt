@@ -1,4 +1,4 @@
--- `showing::rewriting::print_subgoal` is safe and ends: the terms that are left fall.
+-- `console::rewriting::print_subgoal` is safe and ends: the terms that are left fall.
 use Prim.Native.Nat.{_≤_, _-_}
 use borrow.Author.Needs.{needs}
 use Rattle.console.proofs.rewriting.print_subgoal.Statement.{statement}

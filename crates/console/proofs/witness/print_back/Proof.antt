@@ -1,4 +1,4 @@
--- `showing::witness::print_back` is safe and ends: what is left of the witness falls.
+-- `console::witness::print_back` is safe and ends: what is left of the witness falls.
 use Prim.Native.Nat.{_-_}
 use lib.ListN.{length}
 use borrow.Author.Needs.{needs}

@@ -1,4 +1,4 @@
--- `showing::witness::print_there` is safe and ends: the subgoals that are left fall.
+-- `console::witness::print_there` is safe and ends: the subgoals that are left fall.
 use Prim.Native.Nat.{_≤_, _-_}
 use borrow.Author.Needs.{needs}
 use Rattle.console.proofs.witness.print_there.Statement.{statement}
