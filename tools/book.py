@@ -109,10 +109,6 @@ def triple_stream(triples):
     return b"".join(struct.pack("<III", *map(len, parts)) + b"".join(parts) for parts in triples)
 
 
-def is_admitted(need, stamp):
-    return (stamp - need) % 2 ** 32 < 2 ** 31
-
-
 def rows(summary, question, most):
     """The summary's rows on the question; more than `most` are not looked for."""
     head, body = summary

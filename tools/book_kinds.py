@@ -1,8 +1,8 @@
 """What kinds of books a comparison has reached: each kind with a test of a book and its listing."""
-from book import is_admitted, read, rows
+import stamps
+from book import read, rows
 
 MOST = 64
-TOP = 2 ** 32
 
 
 class Told:
@@ -16,7 +16,7 @@ class Told:
         self.is_sound = self.refused in (0, 9, 10)
         if self.is_sound:
             _, self.need, self.question, self.summaries = read(a_book)
-            self.admitted = [rule for stamp, rule in self.summaries if is_admitted(self.need, stamp)]
+            self.admitted = [rule for stamp, rule in self.summaries if stamps.is_admitted(self.need, stamp)]
             self.body = self.question[1]
 
     def row_count(self):
@@ -25,9 +25,6 @@ class Told:
             if total <= MOST:
                 total += len(rows(s, self.question, MOST))
         return total
-
-    def distances(self):
-        return [(stamp - self.need) % TOP for stamp, _ in self.summaries]
 
     def uses(self):
         """The summaries of the answer's subgoals."""
@@ -53,12 +50,8 @@ def sound_kinds(t):
         yield "repeated subgoal"
     if len(t.admitted) < len(t.summaries):
         yield "summary left out"
-    if 2 ** 31 in t.distances():
-        yield "tie"
-    if any(d < 2 ** 31 and t.need + d >= TOP for d in t.distances()):
-        yield "admitted across the wrap"
-    if any(d > 2 ** 31 and t.need + d < TOP for d in t.distances()):
-        yield "left out across the wrap"
+    for stamp, _ in t.summaries:
+        yield from stamps.stamp_kinds(t.need, stamp)
 
 
 def kinds(a_book, listing):
@@ -84,5 +77,6 @@ def kinds(a_book, listing):
 ALL = (["refused %d" % n for n in range(2, 11)] + ["answer of %s" % n for n in (1, 2, 3, 4, "5 to 8", "9 to 12")]
        + ["answer that uses a summary twice", "self-join", "constant in the question", "constant in a summary",
           "constant or repetition in the question's head", "question with an empty head", "summary with an empty head",
-          "repeated subgoal", "summary left out", "tie", "admitted across the wrap", "left out across the wrap",
-          "64 rows", "60 to 63 rows", "no row"])
+          "repeated subgoal", "summary left out", *stamps.KINDS, "64 rows", "60 to 63 rows", "no row"])
+# how many books of a kind there must be
+LEAST = {kind: 200 if kind in stamps.KINDS else 1 for kind in ALL}

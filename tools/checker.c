@@ -72,7 +72,7 @@ static int expand(struct expanded *e, const uint8_t *rewriting, size_t length) {
     for (int u = 0; u < e->uses; u++) {
         if (at >= length || rewriting[at] < 1 || rewriting[at] > book[0]) return 0;
         int i = rewriting[at] + 1;
-        if (stamp_of(book, i) - stamp_of(book, 1) >= 0x80000000) return 0; /* left out */
+        if (!is_admitted(stamp_of(book, 1), stamp_of(book, i))) return 0;
         const uint8_t *summary = body_of(book, i), *given = rewriting + at + 1;
         at = terms(rewriting, length, at + 1, summary[0], &seen);
         if (at == 0) return 0;

@@ -7,6 +7,16 @@ struct reading { int number, place; }; /* number 0: sound */
 
 static uint32_t number(const uint8_t *b) { return b[0] | b[1] << 8 | b[2] << 16 | (uint32_t)b[3] << 24; }
 
+/* The lead of a stamp that is not 0: on the ring 1 to 4,294,967,295, which has no 0 to step on. */
+static inline int32_t lead(uint32_t need, uint32_t stamp) {
+    if (need == 0) return 0;
+    uint32_t distance = stamp - need - (stamp < need);
+    return distance < 0x80000000 ? (int32_t)distance : (int32_t)(distance + 1);
+}
+
+/* A stamp of 0 marks a summary never filled. */
+static inline int is_admitted(uint32_t need, uint32_t stamp) { return stamp != 0 && lead(need, stamp) >= 0; }
+
 /* Refusals 2 to 5; on success n is the number of summaries. */
 static int contents(const uint8_t *book, size_t length, size_t *n) {
     if (length < 2 || length > 25040) return 2;

@@ -250,7 +250,7 @@ static int find_rows(const struct book *b, struct row *rows) {
     word term[SUBGOALS * 8], source[IN_SUMMARY * WORDS], slots[8];
     int terms = terms_of(b, term), count = 0;
     for (int s = 0; s < b->summaries; s++) {
-        if ((uint32_t)(b->stamp[s] - b->need) >= 0x80000000) continue; /* left out */
+        if (!is_admitted(b->need, b->stamp[s])) continue;
         const struct rule *r = &b->summary[s];
         source_of(r, source);
         for (int h = 0; h < r->heads; h++) slots[h] = slot(r->head[h]);
@@ -448,9 +448,8 @@ static struct outcome rewrite(const uint8_t *bytes, size_t length, struct book *
 static void print_leads(const struct book *b) {
     printf("need %u\n", b->need);
     for (int s = 0; s < b->summaries; s++) {
-        uint32_t distance = b->stamp[s] - b->need;
-        if (distance == 0x80000000) printf("view %d lead tie\n", s + 1);
-        else printf("view %d lead %d\n", s + 1, (int32_t)distance);
+        if (b->stamp[s] == 0) printf("view %d lead none\n", s + 1);
+        else printf("view %d lead %d\n", s + 1, lead(b->need, b->stamp[s]));
     }
 }
 

@@ -6,6 +6,7 @@ import random
 import sys
 
 import damaged_books
+import stamps
 from book import book, rows, stream
 
 TOP = 2 ** 32
@@ -94,11 +95,7 @@ class Maker:
         return (sorted({t for t in out[0][1] if t[0] == 0}), out)
 
     def a_stamp(self, need):
-        """Mostly admitted; else left out, a tie, or at an end of the ring."""
-        by = self.random.choice((0, 0, 1, 9, 2 ** 31 - 1, self.random.getrandbits(31)))
-        if self.chance(0.15):
-            by = self.random.choice((-1, -2, 2 ** 31, 2 ** 31 + 1, -self.random.randint(1, 2 ** 31 - 1)))
-        return (need + by) % TOP
+        return (stamps.a_stamp_left_out if self.chance(0.15) else stamps.an_admitted_stamp)(self.random, need)
 
     def renamed(self, a_rule):
         """The same rule over other variables, so that another order of terms decides."""
@@ -110,7 +107,7 @@ class Maker:
 
     def finished(self, arities, question, summaries, most=16):
         """The book, with as many of the summaries as have not too many rows for a search that tries all lists."""
-        need = self.random.choice((1, 0, TOP - 1, TOP - 6, 2 ** 31, self.random.getrandbits(32)))
+        need = stamps.a_need(self.random)
         rename = self.renamed if self.chance(0.4) else lambda r: r
         kept, total = [], 0
         for s in summaries[:64]:

@@ -80,11 +80,11 @@ no(A, "(X0) from 1(X0,X32), 2(X32,7)", "1.1 2.1", "1 2")
 no(A, "(X0) from 1(X0,X1), 2(X1)", "1.1 2.1", "1 2")
 case("no", A, as_bytes(ANSWER).replace(b"\1\7", b"\2\7"), WITNESS)
 
-# summary 3 is left out, admitted, a tie
+# summary 3 is left out, admitted, has the lowest lead, the highest (after 4294967295 comes 1)
 no(A, "(X0) from 3(X0,7)", "1.1 1.2", "1 2")
 yes(book_a(4294967290), "(X0) from 3(X0,7)", "1.1 1.2", "1 2")
-no(book_a((4294967290 + 2147483648) % 4294967296), "(X0) from 3(X0,7)", "1.1 1.2", "1 2")
-yes(book_a((4294967290 + 2147483647) % 4294967296), "(X0) from 3(X0,7)", "1.1 1.2", "1 2")
+no(book_a(2147483643), "(X0) from 3(X0,7)", "1.1 1.2", "1 2")
+yes(book_a(2147483642), "(X0) from 3(X0,7)", "1.1 1.2", "1 2")
 
 # what need not be: ascending, the question's variables, shortest, distinct
 yes(A, "(X0) from 2(X1,7), 1(X0,X1)", "2.1 1.1", "2 1")
@@ -163,6 +163,12 @@ case("no", layout([b"\1"] + [rule_bytes(rule("() from 0(X0)"))] * 66, [0] + [1] 
 for answer, left_out in (("yes", "(A) from 0(A)"), ("no", "(B) from 0(A)"), ("no", "(7) from 0(A)"), ("no", "(A,A) from 0(A)"), ("no", "(A) from 1(A)")):
     case(answer, book([1], 1, "(X0) from 0(X0)", [(1, "(A) from 0(A)"), (0, left_out)]), "(X0) from 1(X0)", b"\1\1\1")
 case("no", layout([b"\1", rule_bytes(rule("(X0) from 0(X0)")), rule_bytes(rule("(A) from 0(A)"))], [1, 1, 1]), "(X0) from 1(X0)", b"\1\1\1")
+
+# ---- stamps: across the end of the ring, never filled, and under a need of 0, which admits every stamp but 0
+
+for answer, need, stamp in (("yes", 4294967295, 1), ("yes", 4294967295, 2147483647), ("no", 4294967295, 2147483648), ("no", 1, 4294967295),
+                            ("no", 4294967295, 0), ("no", 0, 0), ("yes", 0, 1), ("yes", 0, 4294967295)):
+    case(answer, book([1], need, "(X0) from 0(X0)", [(stamp, "(A) from 0(A)")]), "(X0) from 1(X0)", b"\1\1\1")
 
 
 def main():

@@ -41,7 +41,7 @@ def book_a(stamp):
 
 
 case("""need 4294967290
-view 1 lead 9
+view 1 lead 8
 view 2 lead 5
 view 3 lead -1
 rewriting 2
@@ -54,7 +54,7 @@ back 1 2
 # ---- sheets to try
 
 case("""need 4294967290
-view 1 lead 9
+view 1 lead 8
 view 2 lead 5
 view 3 lead 0
 rewriting 1
@@ -81,17 +81,20 @@ case(listing(1, ["1 v0 v1", "1 v1 v2"], "1.1 2.1", "1 2"), whole([2], "(X0,X2) f
 case(listing(1, ["1 v0"], "1.1 1.1", "1"), whole([2], "(X0) from 0(X0,X1), 0(X0,X2)", "(A) from 0(A,B)"))
 case(listing(1, ["1 v0"], "1.2 1.3", "1 1 2"), whole([1, 1], "() from 0(X0), 1(X0)", "(A) from 0(A), 0(B), 1(B)"))
 
-# leads against need 0, at both sides of the tie
-case("""need 0
-view 1 lead 2147483647
-view 2 lead tie
-view 3 lead -2147483647
-rewriting 1
-1 v0
-there 1.1
-back 1
-""", book([1], 0, "() from 0(X0)", [(s, "(A) from 0(A)") for s in (2147483647, 2147483648, 2147483649)]))
-case(refused(10), book([1], 0, "() from 0(X0)", [(s, "(A) from 0(A)") for s in (2147483648, 2147483649)]))
+
+def stamped(need, *stamps):
+    """Any of the summaries answers the question, if its stamp lets it."""
+    return book([1], need, "() from 0(X0)", [(s, "(A) from 0(A)") for s in stamps])
+
+
+def stamped_listing(need, leads, chosen):
+    views = "".join("view %d lead %s\n" % (i + 1, lead) for i, lead in enumerate(leads.split()))
+    return "need %d\n%srewriting 1\n%d v0\nthere 1.1\nback 1\n" % (need, views, chosen)
+
+
+# leads against need 1: the highest, the lowest, and none
+case(stamped_listing(1, "2147483647 -2147483647 none", 1), stamped(1, 2147483648, 2147483649, 0))
+case(refused(10), stamped(1, 2147483649, 0))
 
 
 def loose(count):
@@ -124,14 +127,7 @@ case(listing(3, ["2 v0", "3 v0"], "1.1 1.2 2.1 2.2 1.3 2.3", "1 2 5 3 4 6"),
 # d: reading a constant as a variable
 case(refused(10), whole([2], "(X0) from 0(X0,0)", "(A) from 0(A,A)"))
 # e: comparing refresh numbers without the wrap: the larger stamp is the older one
-case("""need 2
-view 1 lead -3
-view 2 lead 3
-rewriting 1
-2 v0
-there 1.1
-back 1
-""", book([1], 2, "() from 0(X0)", [(4294967295, "(A) from 0(A)"), (5, "(A) from 0(A)")]))
+case(stamped_listing(2, "-2 3", 2), stamped(2, 4294967295, 5))
 
 # ---- the largest answer and the longest witness, 534 and 120 bytes: summary i shows relation i, and hides seven more
 
@@ -150,9 +146,9 @@ case(listing(1, ["1 v1"], "1.1 1.1", "1"), whole([1], "() from 0(X2), 0(X1)", "(
 # ---- summaries that are left out have no say, but must be sound
 
 case(listing(1, ["1 v0"], "1.1", "1").replace("view 1 lead 0\n", "view 1 lead 0\nview 2 lead -1\n"),
-     book([1], 1, "(X0) from 0(X0)", [(1, "(A) from 0(A)"), (0, "(A) from 0(A)")]))
+     book([1], 1, "(X0) from 0(X0)", [(1, "(A) from 0(A)"), (4294967295, "(A) from 0(A)")]))
 case(listing(1, ["1 v0 v0"], " ".join(["1.1"] * 8), "1 1").replace("view 1 lead 0\n", "view 1 lead 0\nview 2 lead -1\n"),
-     book([1], 1, loose(8), [(1, PAIR), (0, PAIR)]))
+     book([1], 1, loose(8), [(1, PAIR), (4294967295, PAIR)]))
 case(refused(7, 3), book([1], 1, "(X0) from 0(X0)", [(1, "(A) from 0(A)"), (0, "(B) from 0(A)")]))
 
 # ---- which refusal comes first
@@ -161,6 +157,23 @@ case(refused(8, 3), whole([1], loose(9), PAIR, "(A,A) from 0(A)"))
 case(refused(6, 1), layout([b"\1", b"", rule_bytes(rule("(B) from 0(A)"))], [0, 1, 1]))
 case(refused(5), layout([b"\0", b""], [0, 1]))
 case(refused(4), book_a(1)[:-1])
+
+# ---- stamps round the ring: after 4,294,967,295 comes 1
+
+case(stamped_listing(4294967295, "1 -1 2147483647 -2147483647", 1), stamped(4294967295, 1, 4294967294, 2147483647, 2147483648))
+case(stamped_listing(1, "-1 -2 -2147483647 0", 4), stamped(1, 4294967295, 4294967294, 2147483649, 1))
+case(stamped_listing(2147483649, "2147483647 -2147483647 -2147483647 2147483647", 1), stamped(2147483649, 1, 2, 2, 1))
+# the furthest that is still ahead, across the end; one step further
+case(stamped_listing(4294967295, "2147483647", 1), stamped(4294967295, 2147483647))
+case(refused(10), stamped(4294967295, 2147483648))
+# 0 marks a summary never filled, whatever the need, also where a ring with a 0 would have it just ahead
+case(refused(10), stamped(4294967295, 0))
+case(stamped_listing(4294967295, "none 0", 2), stamped(4294967295, 0, 4294967295))
+# a need of 0 admits every stamp but 0
+case(stamped_listing(0, "none 0 0 0 0", 2), stamped(0, 0, 1, 2147483648, 2147483649, 4294967295))
+case(stamped_listing(0, "0", 1), stamped(0, 4294967295))
+case(refused(10), stamped(0, 0))
+case(refused(7, 2), book([1], 0, "() from 0(X0)", [(0, "(B) from 0(A)")]))
 
 
 def main():

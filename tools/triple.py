@@ -1,8 +1,9 @@
 """A triple of book, rewriting and witness as values, for the makers of triples."""
 import copy
 
-from book import book, is_admitted, read, rows, rule_bytes
+from book import book, read, rows, rule_bytes
 from mappings import RIGHT
+from stamps import is_admitted
 
 
 class Triple:

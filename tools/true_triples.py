@@ -4,11 +4,10 @@ import random
 
 import damaged_books
 import largest
-from book import is_admitted
+import stamps
 from mappings import RIGHT
 from triple import Triple
 
-TOP = 2 ** 32
 MOST = 12
 
 
@@ -103,7 +102,7 @@ class TrueMaker:
             return None
         goals = [(r, [(0, g * arity + b) for b in range(arity)]) for g in range(count)]
         rule = ([goal[1][a] for goal in goals], goals)
-        made = t.but(summaries=t.summaries + [(t.need, rule)])
+        made = t.but(summaries=t.summaries + [(stamps.an_admitted_stamp(self.random, t.need), rule)])
         if self.chance(0.5) or len(t.body) == MOST:
             return made
         return self.witnessed(self.put(made, (len(made.summaries), [self.pick(sorted(best)) for _ in range(count)])))
@@ -123,20 +122,14 @@ class TrueMaker:
 
     def other_stamps(self, t):
         """Other stamps, each still admitted or still left out."""
-        need = self.random.getrandbits(32)
-        lead = lambda stamp: self.admitted() if is_admitted(t.need, stamp) else self.left_out()
-        return t.but(need=need, summaries=[((need + lead(stamp)) % TOP, rule) for stamp, rule in t.summaries])
-
-    def admitted(self):
-        return self.pick((0, 1, 2 ** 31 - 1, self.random.getrandbits(31)))
-
-    def left_out(self):
-        return self.pick((-1, 2 ** 31, 2 ** 31 + 1, -self.random.randint(1, 2 ** 31)))
+        need = stamps.a_need(self.random)
+        as_before = lambda stamp: stamps.an_admitted_stamp if stamps.is_admitted(t.need, stamp) else stamps.a_stamp_left_out
+        return t.but(need=need, summaries=[(as_before(stamp)(self.random, need), rule) for stamp, rule in t.summaries])
 
     def no_say(self, t):
         """A summary that is left out, with any sound rule, put in the place of another one or at the end."""
         rule = self.damaged.a_rule(t.arities, 8, True)
-        one = ((t.need + self.left_out()) % TOP, rule)
+        one = (stamps.a_stamp_left_out(self.random, t.need), rule)
         free = [i for i in range(len(t.summaries)) if i + 1 not in {number for number, _ in t.body}]
         if free and self.chance(0.5):
             at = self.pick(free)

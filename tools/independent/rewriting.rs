@@ -47,22 +47,22 @@ pub struct Rewriting {
     pub back: Vec<usize>,
 }
 
-pub enum Lead {
-    Ahead(i64),
-    Tie,
-}
-
-pub fn lead(need: u32, stamp: u32) -> Lead {
-    let distance = (stamp as i64 - need as i64).rem_euclid(1 << 32);
-    match distance - (1 << 31) {
-        0 => Lead::Tie,
-        past if past < 0 => Lead::Ahead(distance),
-        _ => Lead::Ahead(distance - (1 << 32)),
+/// The lead of a stamp, if it has one. The ring's numbers are 1 to `u32::MAX`, so there are that many.
+pub fn lead(need: u32, stamp: u32) -> Option<i64> {
+    let numbers = u32::MAX as i64;
+    if stamp == 0 {
+        return None;
     }
+    if need == 0 {
+        return Some(0);
+    }
+    let plain = stamp as i64 - need as i64;
+    // of the three ways to count it the shortest: the ring has an odd number, so that no two are as short
+    [plain - numbers, plain, plain + numbers].into_iter().min_by_key(|by| by.abs())
 }
 
 pub fn is_admitted(need: u32, stamp: u32) -> bool {
-    matches!(lead(need, stamp), Lead::Ahead(by) if by >= 0)
+    lead(need, stamp).is_some_and(|by| by >= 0)
 }
 
 /// A term of an expansion: one of the rewriting's own, or a fresh variable of a use (from 0).
@@ -308,8 +308,8 @@ pub fn listing(book: &Book, found: &Rewriting) -> String {
     let mut out = format!("need {}\n", book.need);
     for (i, (stamp, _)) in book.summaries.iter().enumerate() {
         match lead(book.need, *stamp) {
-            Lead::Ahead(by) => out += &format!("view {} lead {}\n", i + 1, by),
-            Lead::Tie => out += &format!("view {} lead tie\n", i + 1),
+            Some(by) => out += &format!("view {} lead {}\n", i + 1, by),
+            None => out += &format!("view {} lead none\n", i + 1),
         }
     }
     out += &format!("rewriting {}\n", found.rows.len());

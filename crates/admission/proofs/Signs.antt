@@ -1,25 +1,28 @@
 -- What the machine's test of a signed number's sign gives.
-use mathlib.Core.Path.{_≡_, ap, sym, _∙_}
-use mathlib.Core.Bool.{Bool, true, false, not}
+use mathlib.Core.Path.{_≡_, refl, ap, sym, _∙_}
+use mathlib.Core.Bool.{Bool, true, false}
 use Prim.Native.Nat.{ℕ, _<_, _^_}
 use native.Mathlib.Omega.{arith}
 use lib.IntN.{ℤ, pos, negsuc, _-ℤ_, natAbs}
-use lib.Signed.{ltZ, nonNeg}
+use lib.Signed.{ltZ, leZ, nonNeg}
 use lib.Dec.{T}
 use mir.Syntax.{w32, w64}
 use mir.Val.{toZ, ofZ, Fits, SFits}
 use mir.ValLaws.{toZ-ofZ}
-use borrow.Author.Tests.{le-ltb}
-use Rattle.spec.specs.Refresh.{ahead, lead, leadsBy}
+use borrow.Author.Tests.{le-ltb, le-leb}
+use Rattle.spec.specs.Refresh.{ahead, leadsBy}
 
 -- The test reads a number through its 32 bits.
 pub tested : (z : ℤ) (b : Bool) → SFits w32 z → ltZ (toZ w32 (ofZ w32 z)) (pos 0) ≡ b → ltZ z (pos 0) ≡ b
 tested z b f e = ap (λ x. ltZ x (pos 0)) (sym (toZ-ofZ w32 z f)) ∙ e
 
--- A lead is 0 or more where it is not below 0.
-pub leads : (z : ℤ) (b : Bool) → ltZ z (pos 0) ≡ b → not b ≡ leadsBy (ahead z)
-leads (pos n) b e = ap not (sym e ∙ le-ltb n 0 (omega arith))
-leads (negsuc n) b e = ap not (sym e)
+-- The test of a lead that is 0 or more, through its 32 bits.
+pub leads : (z : ℤ) → SFits w32 z → leZ (pos 0) (toZ w32 (ofZ w32 z)) ≡ leadsBy (ahead z)
+leads z f = ap (leZ (pos 0)) (toZ-ofZ w32 z f) ∙ at-least z
+  where
+    at-least : (y : ℤ) → leZ (pos 0) y ≡ leadsBy (ahead y)
+    at-least (pos n) = le-leb 0 n (omega arith)
+    at-least (negsuc n) = refl
 
 -- What is known of a lead below 0: its negation at 64 bits is the number without its sign.
 pub record NegativeLead (z : ℤ) : Type 0 where

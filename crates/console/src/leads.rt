@@ -14,7 +14,7 @@ use spec::Loaded;
 
 fn print_lead(lead: Lead) {
     match lead {
-        Lead::Tie => print_text(b" lead tie"),
+        Lead::Unfilled => print_text(b" lead none"),
         Lead::Ahead(by) => {
             if by < 0 {
                 print_after(b" lead -", size_of(by));
@@ -25,7 +25,7 @@ fn print_lead(lead: Lead) {
     }
 }
 
-// One line: a summary, counted from 1, and its lead or the tie. The stamp of entry 1, the question, is the need.
+// One line: a summary, counted from 1, and its lead, or none. The stamp of entry 1, the question, is the need.
 fn print_view(book: &[u8], summary: usize)
     requires { ⌜ Loads (now book) × (summary ≤ count (now book)) ⌝ }
 {

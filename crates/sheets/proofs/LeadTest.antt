@@ -3,7 +3,7 @@ use mathlib.Core.Path.{_≡_, refl, ap}
 use mathlib.Core.Bool.{Bool, true, false}
 use lib.IntN.{ℤ, pos, negsuc}
 use lib.Dec.{T, eqb, eqb→eq}
-use Rattle.spec.specs.Refresh.{Lead, ahead, tie}
+use Rattle.spec.specs.Refresh.{Lead, ahead, unfilled}
 
 abbrev sameWhole : ℤ → ℤ → Bool
 sameWhole (pos a) (pos b) = eqb a b
@@ -19,12 +19,12 @@ whole-sound (negsuc a) (negsuc b) h = ap negsuc (eqb→eq a b h)
 
 abbrev pub sameLead : Lead → Lead → Bool
 sameLead (ahead a) (ahead b) = sameWhole a b
-sameLead (ahead a) tie = false
-sameLead tie (ahead b) = false
-sameLead tie tie = true
+sameLead (ahead a) unfilled = false
+sameLead unfilled (ahead b) = false
+sameLead unfilled unfilled = true
 
 pub lead-sound : (l k : Lead) → T (sameLead l k) → l ≡ k
 lead-sound (ahead a) (ahead b) h = ap ahead (whole-sound a b h)
-lead-sound (ahead a) tie h = absurd h
-lead-sound tie (ahead b) h = absurd h
-lead-sound tie tie h = refl
+lead-sound (ahead a) unfilled h = absurd h
+lead-sound unfilled (ahead b) h = absurd h
+lead-sound unfilled unfilled h = refl

@@ -2,7 +2,7 @@
 -- out by hand. proofs/Proved.antt has the statement.
 use mathlib.Core.List.{List, [], _∷_}
 use lib.IntN.{pos, negℤ}
-use Rattle.spec.specs.Refresh.{ahead, tie}
+use Rattle.spec.specs.Refresh.{ahead, unfilled}
 use Rattle.sheets.specs.Sheet.{Sheet, accepts, refuses, leads}
 use Rattle.sheets.specs.Books.{bookA, bookASecond, path, star, pair, apart, eight, nine, noSummaries}
 use Rattle.sheets.specs.SourceBooks.{example41, carLocPart, withoutV4, withoutV2V4}
@@ -31,10 +31,19 @@ sheets =
     ∷ accepts pair (0 ∷ 1 ∷ 1 ∷ 0 ∷ 0 ∷ 0 ∷ 0 ∷ 0 ∷ []) (1 ∷ 2 ∷ 1 ∷ 3 ∷ 1 ∷ 1 ∷ 2 ∷ [])
     -- the same question; summaries () from 0(A) and () from 1(A), each hiding a variable of its own
     ∷ refuses apart 10 0
-    -- * leads against need 0
-    ∷ leads 0 2147483647 (ahead (pos 2147483647))
-    ∷ leads 0 2147483648 tie
-    ∷ leads 0 2147483649 (ahead (negℤ (pos 2147483647)))
+    -- * the three lead cases, against need 1
+    ∷ leads 1 2147483648 (ahead (pos 2147483647))
+    ∷ leads 1 2147483649 (ahead (negℤ (pos 2147483647)))
+    ∷ leads 1 0 unfilled
+    -- * book A: "summary 1 now has lead 8"; its others
+    ∷ leads 4294967290 3 (ahead (pos 8))
+    ∷ leads 4294967290 4294967295 (ahead (pos 5))
+    ∷ leads 4294967290 4294967289 (ahead (negℤ (pos 1)))
+    ∷ leads 4294967290 4294967290 (ahead (pos 0))
+    -- a need of 0, with the lowest and the highest stamp, and with a stamp of 0
+    ∷ leads 0 1 (ahead (pos 0))
+    ∷ leads 0 4294967295 (ahead (pos 0))
+    ∷ leads 0 0 unfilled
     -- () from 0(X0) to 0(X7), eight subgoals; summary (A,B) from 0(A), 0(B): 64 rows; answer 1(X0,X0), there 1.1 1.1 1.1 1.1 1.1 1.1 1.1 1.1, back 1 1
     ∷ accepts eight (0 ∷ 1 ∷ 1 ∷ 0 ∷ 0 ∷ 0 ∷ 0 ∷ 0 ∷ 0 ∷ 0 ∷ 0 ∷ 0 ∷ 0 ∷ []) (1 ∷ 1 ∷ 1 ∷ 1 ∷ 1 ∷ 1 ∷ 1 ∷ 1 ∷ 1 ∷ 1 ∷ 1 ∷ 1 ∷ 1 ∷ 1 ∷ 1 ∷ 1 ∷ 1 ∷ 1 ∷ [])
     -- with nine subgoals, 81 rows

@@ -1,2 +1,4 @@
 pub mod Admits
 pub mod Leads
+pub mod Ring
+pub mod Turned

@@ -1,30 +1,40 @@
 -- Refresh numbers: the distance from the need to a stamp, the lead, and which summaries are admitted.
 use mathlib.Core.Path.{_≡_}
 use mathlib.Core.Bool.{Bool, true, false, cond}
-use Prim.Native.Nat.{ℕ, _+_, _-_, _%_}
+use Prim.Native.Nat.{ℕ, zero, suc, _+_, _-_, _%_}
 use lib.IntN.{ℤ, pos, negsuc, _-ℤ_}
-use lib.Dec.{ltb, eqb}
+use lib.Dec.{leb, eqb}
 use Rattle.spec.specs.Words.{Rule}
 
--- Refresh numbers have 32 bits.
+-- "the ring 1 to 4,294,967,295"
 abbrev pub ring : ℕ
-ring = 4294967296
+ring = 4294967295
 
--- "The distance d is s − r taken modulo 4,294,967,296." Need and stamp are below 4,294,967,296.
+-- "after 4,294,967,295 comes 1"
+abbrev pub successor : ℕ → ℕ
+successor n = cond (eqb n ring) 1 (suc n)
+
+-- The refresh number that many steps after n.
+unfoldable pub numberAfter : ℕ → ℕ → ℕ
+numberAfter n zero = n
+numberAfter n (suc d) = successor (numberAfter n d)
+
+-- "Distances are taken on the ring": from need to stamp, both on the ring (proofs/Refresh/Ring: the stamp is that many steps after the need).
 abbrev pub distance : ℕ → ℕ → ℕ
 distance need stamp = (stamp + (ring - need)) % ring
 
+-- "from 0 to 2,147,483,647 as leads and the rest as negative leads"
+abbrev pub leadAt : ℕ → ℤ
+leadAt d = cond (leb d 2147483647) (pos d) (pos d -ℤ pos ring)
+
+-- "0 marks a summary never filled": it has no lead.
 pub data Lead : Type 0 where
   ahead : ℤ → Lead
-  tie : Lead
+  unfilled : Lead
 
--- "For d up to 2,147,483,647 the lead is d. For d from 2,147,483,649 the lead is d − 4,294,967,296, a negative number.
--- At d = 2,147,483,648 there is no lead (a tie)."
-abbrev pub leadAt : ℕ → Lead
-leadAt d = cond (ltb d 2147483648) (ahead (pos d)) (cond (eqb d 2147483648) tie (ahead (pos d -ℤ pos ring)))
-
+-- "A stamp of 0 is never admitted and prints 'lead none'. A need of 0 admits every stamp but 0, and then each lead prints as 0."
 abbrev pub lead : ℕ → ℕ → Lead
-lead need stamp = leadAt (distance need stamp)
+lead need stamp = cond (eqb stamp 0) unfilled (ahead (cond (eqb need 0) (pos 0) (leadAt (distance need stamp))))
 
 -- "A summary is admitted exactly if it has a lead of 0 or more."
 pub record Admitted (need stamp : ℕ) (rule : Rule ℕ) : Type 0 where
@@ -35,7 +45,7 @@ pub record Admitted (need stamp : ℕ) (rule : Rule ℕ) : Type 0 where
 abbrev pub leadsBy : Lead → Bool
 leadsBy (ahead (pos n)) = true
 leadsBy (ahead (negsuc n)) = false
-leadsBy tie = false
+leadsBy unfilled = false
 
 unfoldable pub admitted : ℕ → ℕ → Rule ℕ → Bool
 admitted need stamp rule = leadsBy (lead need stamp)

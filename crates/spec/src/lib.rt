@@ -29,10 +29,10 @@ pub struct Entry {
     pub stamp: u32,
 }
 
-// A tie is kept apart: it has no lead.
+// A summary never filled is kept apart: it has no lead.
 pub enum Lead {
     Ahead(i32),
-    Tie,
+    Unfilled,
 }
 
 // The lengths of answer and witness, or the refusal.

@@ -9,13 +9,13 @@ use Rattle.spec.specs.Words.{Rule}
 use Rattle.spec.specs.Refresh.{lead, admitted}
 use Rattle.spec.specs.LeadSays.{leadSays}
 use Rattle.spec.specs.declared.Lead.{Lead}
-use Rattle.spec.specs.declared.Lead.the-variants.{Ahead, Tie}
+use Rattle.spec.specs.declared.Lead.the-variants.{Ahead, Unfilled}
 
 same-words : (r s : Lead) → leadSays r ≡ leadSays s → r ≡ s
 same-words (Ahead z) (Ahead y) e = cc
-same-words (Ahead z) Tie e = absurd (let never : _≡_ {A = ℕ} 0 1 = cc in omega arith)
-same-words Tie (Ahead y) e = absurd (let never : _≡_ {A = ℕ} 0 1 = cc in omega arith)
-same-words Tie Tie e = refl
+same-words (Ahead z) Unfilled e = absurd (let never : _≡_ {A = ℕ} 0 1 = cc in omega arith)
+same-words Unfilled (Ahead y) e = absurd (let never : _≡_ {A = ℕ} 0 1 = cc in omega arith)
+same-words Unfilled Unfilled e = refl
 
 pub lead-of-unique : (need stamp : ℕ) (r s : Lead) → leadSays r ≡ lead need stamp → leadSays s ≡ lead need stamp → r ≡ s
 lead-of-unique need stamp r s p q = same-words r s (p ∙ sym q)

@@ -1,32 +1,46 @@
-use borrow.Author.Needs.{needs}
 use native.Mathlib.Omega.{arith}
-use Rattle.admission.proofs.Leads.{low, tied, high, behind-fits}
+use Rattle.admission.proofs.Leads.{never-filled, under-0, low, high, behind-fits}
+use borrow.Author.Needs.{needs}
 use Rattle.admission.proofs.lead_of.Statement.{statement}
 use Rattle.admission.proofs.lead_of.Tie as tie
 
--- That the machine's difference is the distance is `omega`'s, from what `wrapping_sub_u32` ensures.
 returns : tie.Need-returns
-returns c = low (c .before .before .args .need) (c .before .before .args .stamp) (c .before .wrapping-sub-u32 .result) (omega arith) (omega arith)
+returns c =
+    let a = c .before .args in
+    never-filled (a .need) (a .stamp) (omega arith)
 
 returns-2 : tie.Need-returns-2
-returns-2 c = tied (c .before .before .before .args .need) (c .before .before .before .args .stamp) (c .before .before .wrapping-sub-u32 .result) (omega arith) (omega arith)
-
-sub-t9 : tie.Need-sub-t9
-sub-t9 c = behind-fits (c .before .before .wrapping-sub-u32 .result) (omega arith) (omega arith)
+returns-2 c =
+    let a = c .before .before .args in
+    under-0 (a .need) (a .stamp) (omega arith) (λ e. omega arith)
 
 returns-3 : tie.Need-returns-3
-returns-3 c = high (c .before .before .before .args .need) (c .before .before .before .args .stamp) (c .before .before .wrapping-sub-u32 .result) (omega arith) (omega arith) (omega arith)
+returns-3 c =
+    let steps = c .before .steps in
+    let a = c .before .before .before .before .args in
+    low (a .need) (a .stamp) (steps .result) (λ e. omega arith) (λ e. omega arith) (steps .ensures) (omega arith)
+
+sub-lead : tie.Need-sub-lead
+sub-lead c =
+    let steps = c .before .steps in
+    behind-fits (steps .result) (omega (arith, steps .ensures)) (omega arith)
+
+returns-4 : tie.Need-returns-4
+returns-4 c =
+    let steps = c .before .steps in
+    let a = c .before .before .before .before .args in
+    high (a .need) (a .stamp) (steps .result) (λ e. omega arith) (λ e. omega arith) (steps .ensures) (omega (arith, steps .ensures)) (omega arith)
 
 pub lead-of-spec : {M : Type 1} → statement M
 lead-of-spec =
     tie.close
     (tie.spec
-    (λ c κs. search needs)
-    (λ c. search needs)
     returns
     returns-2
+    (λ c κs. search needs)
+    (λ c. search needs)
+    returns-3
     (λ c. search needs)
     (λ c. search needs)
-    (λ c. search needs)
-    sub-t9
-    returns-3)
+    sub-lead
+    returns-4)

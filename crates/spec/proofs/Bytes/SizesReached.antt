@@ -61,7 +61,7 @@ sizedRule h k many = record { head = firstVariables h; body = replicate many (su
 abbrev summaryOf : ℕ → ℕ → ℕ → Summary
 summaryOf h k many = record { stamp = 0; rule = sizedRule h k many }
 
--- A book of such rules: how many relations, how long its heads and its rows, how many subgoals its question and its summaries have, how many summaries.
+-- A book of such rules (its stamps have no part in its size): how many relations, how long its heads and its rows, how many subgoals its question and its summaries have, how many summaries.
 bookOf : ℕ → ℕ → ℕ → ℕ → ℕ → ℕ → Book
 bookOf relations h k question summary n = record {
   arities = replicate relations k;

@@ -10,7 +10,7 @@ use lib.Dec.{lit<}
 use Rattle.spec.specs.Words.{Term, var, con, Subgoal, Fits, Mapping}
 use Rattle.spec.specs.Summaries.{Own, old, fresh, uses}
 use Rattle.spec.specs.Order.{TermBefore, RowBefore, Ascending, ShorterFirst}
-use Rattle.spec.specs.Refresh.{Lead, ahead, tie, lead}
+use Rattle.spec.specs.Refresh.{numberAfter, Lead, ahead, unfilled, lead}
 use Rattle.spec.proofs.Examples.Written.{x0, x1, x2, rule, on}
 
 -- "Variables sort before constants, each by number."
@@ -72,7 +72,7 @@ two-uses : uses (some (rule (x0 ∷ x2 ∷ []) (on 0 (x0 ∷ x1 ∷ []) ∷ on 1
     ≡ (of 0 (var (old 0)) (var (fresh 0 1)) ∷ of 1 (var (fresh 0 1)) (var (old 1)) ∷ []) ∷ (of 0 (var (old 1)) (var (fresh 1 1)) ∷ of 1 (var (fresh 1 1)) (con 7) ∷ []) ∷ []
 two-uses = refl
 
--- A need, a stamp, and the lead that the specification tells (against need 0: in the table of crate sheets).
+-- A need, a stamp, and the lead that the specification tells (its own cases: in the table of crate sheets).
 record LeadCase : Type 0 where
   need : ℕ
   stamp : ℕ
@@ -81,19 +81,33 @@ record LeadCase : Type 0 where
 abbrev case : ℕ → ℕ → Lead → LeadCase
 case need stamp leads = record { need = need; stamp = stamp; leads = leads }
 
+-- "after 4,294,967,295 comes 1": eight steps from book A's need to its first stamp
+eight-steps : numberAfter 4294967290 8 ≡ 3
+unfolding numberAfter
+eight-steps = refl
+
 leadCases : List LeadCase
 leadCases =
     -- book A, with both stamps of summary 3
-    case 4294967290 3 (ahead (pos 9))
+    case 4294967290 3 (ahead (pos 8))
     ∷ case 4294967290 4294967295 (ahead (pos 5))
     ∷ case 4294967290 4294967289 (ahead (negsuc 0))
     ∷ case 4294967290 4294967290 (ahead (pos 0))
-    -- over the end of the ring, forth and back
-    ∷ case 4294967295 0 (ahead (pos 1))
-    ∷ case 0 4294967295 (ahead (negsuc 0))
-    ∷ case 4294967295 2147483646 (ahead (pos 2147483647))
-    ∷ case 4294967295 2147483647 tie
-    ∷ case 4294967295 2147483648 (ahead (negsuc 2147483646))
+    -- over the end of the ring, forth and back: there is no 0 on it
+    ∷ case 4294967295 1 (ahead (pos 1))
+    ∷ case 1 4294967295 (ahead (negsuc 0))
+    ∷ case 2 1 (ahead (negsuc 0))
+    -- half way round, on both sides and over the end
+    ∷ case 1 2147483648 (ahead (pos 2147483647))
+    ∷ case 1 2147483649 (ahead (negsuc 2147483646))
+    ∷ case 2147483649 1 (ahead (pos 2147483647))
+    ∷ case 2147483649 2 (ahead (negsuc 2147483646))
+    -- a stamp of 0, whatever the need; a need of 0
+    ∷ case 1 0 unfilled
+    ∷ case 4294967295 0 unfilled
+    ∷ case 0 0 unfilled
+    ∷ case 0 1 (ahead (pos 0))
+    ∷ case 0 4294967295 (ahead (pos 0))
     ∷ []
 
 leads-told : map (λ c. lead (c .need) (c .stamp)) leadCases ≡ map (λ c. c .leads) leadCases

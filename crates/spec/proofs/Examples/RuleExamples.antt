@@ -108,7 +108,7 @@ over-too-long o = let e : o .rule ≡ rule [] (on 1 (x0 ∷ []) ∷ []) = cc (o 
 lead-of-none : Admitted 7 7 (rule [] [])
 lead-of-none = record { by = 0; leads = refl }
 
-lead-over-the-end : Admitted 4294967295 0 (rule [] [])
+lead-over-the-end : Admitted 4294967295 1 (rule [] [])
 lead-over-the-end = record { by = 1; leads = refl }
 
 most-ahead : Admitted 1 2147483648 (rule [] [])
@@ -117,8 +117,19 @@ most-ahead = record { by = 2147483647; leads = refl }
 one-behind : Admitted 7 6 (rule [] []) → ⊥
 one-behind a = let z : _≡_ {A = ℕ} 0 1 = cc (a .leads) in omega arith
 
-at-a-tie : Admitted 1 2147483649 (rule [] []) → ⊥
-at-a-tie a = let z : _≡_ {A = ℕ} 0 1 = cc (a .leads) in omega arith
+most-behind : Admitted 1 2147483649 (rule [] []) → ⊥
+most-behind a = let z : _≡_ {A = ℕ} 0 1 = cc (a .leads) in omega arith
+
+-- "0 marks a summary never filled"
+never-filled : Admitted 4294967295 0 (rule [] []) → ⊥
+never-filled a = let z : _≡_ {A = ℕ} 0 1 = cc (a .leads) in omega arith
+
+never-filled-at-0 : Admitted 0 0 (rule [] []) → ⊥
+never-filled-at-0 a = let z : _≡_ {A = ℕ} 0 1 = cc (a .leads) in omega arith
+
+-- "A need of 0 admits every stamp but 0"
+any-at-0 : Admitted 0 4294967295 (rule [] [])
+any-at-0 = record { by = 0; leads = refl }
 
 -- of book A the first two, and the third where its stamp is the need
 abbrev isAdmitted : Option (Rule ℕ) → Bool

@@ -1,44 +1,70 @@
--- The lead, case by case of the distance; admitted exactly if the distance is below 2,147,483,648.
+-- The lead, case by case of stamp, need and distance; its lowest and its highest.
 use mathlib.Core.Path.{_≡_, refl, ap, _∙_, subst, sym}
-use mathlib.Core.Logic.{_⊎_, inl, inr, _↔_}
+use mathlib.Core.Logic.{_↔_}
 use mathlib.Core.Bool.{cond}
-use Prim.Native.Nat.{ℕ, suc, _-_, _<_}
+use Prim.Native.Nat.{ℕ, suc, _-_, _<_, _≤_}
 use native.Mathlib.Omega.{arith}
-use lib.IntN.{pos, negsuc, _-ℤ_}
-use lib.Dec.{T, eqb}
-use borrow.Author.Tests.{lt-ltb, le-ltb, ne-eqb}
-use Rattle.spec.specs.Words.{Rule}
-use Rattle.spec.specs.Refresh.{ring, distance, Lead, ahead, tie, leadAt, lead, Admitted, leadsBy}
-use Rattle.spec.proofs.Lists.Strict.{numbers-compare}
-use Rattle.spec.proofs.Refresh.Admits.{distance-within}
+use native.Mathlib.Decide.{decLt, ℕ-discrete}
+use lib.IntN.{ℤ, pos, negsuc, _-ℤ_, negℤ, natAbs}
+use lib.Dec.{eqb}
+use borrow.Author.Tests.{lt-ltb, le-leb, lt-leb, ne-eqb}
+use Rattle.spec.specs.Refresh.{ring, distance, ahead, unfilled, leadAt, lead}
+use Rattle.spec.proofs.Refresh.Ring.{distance-within}
 
-pub lead-near : (d : ℕ) → d < 2147483648 → leadAt d ≡ ahead (pos d)
-lead-near d h = ap (λ t. cond t (ahead (pos d)) (cond (eqb d 2147483648) tie (ahead (pos d -ℤ pos ring)))) (lt-ltb d 2147483648 h)
+pub same-lead : {x y : ℤ} → ahead x ≡ ahead y → x ≡ y
+same-lead e = cc
 
-pub lead-tie : leadAt 2147483648 ≡ tie
-lead-tie = refl
+-- "from 0 to 2,147,483,647 as leads"
+pub lead-near : (d : ℕ) → d ≤ 2147483647 → leadAt d ≡ pos d
+lead-near d h = ap (λ t. cond t (pos d) (pos d -ℤ pos ring)) (le-leb d 2147483647 h)
 
--- "d − 4,294,967,296, a negative number": for d below 4,294,967,296
-pub lead-far : (d : ℕ) → 2147483648 < d → d < ring → leadAt d ≡ ahead (negsuc (ring - suc d))
+-- "and the rest as negative leads"
+pub lead-far : (d : ℕ) → 2147483647 < d → d < ring → leadAt d ≡ negsuc (ring - suc d)
 lead-far d h k =
-    ap (λ t. cond t (ahead (pos d)) (cond (eqb d 2147483648) tie (ahead (pos d -ℤ pos ring)))) (le-ltb d 2147483648 (omega arith))
-    ∙ ap (λ t. cond t tie (ahead (pos d -ℤ pos ring))) (ne-eqb d 2147483648 (omega arith))
-    ∙ ap (λ t. ahead (cond t (negsuc (ring - suc d)) (pos (d - ring)))) (lt-ltb d ring k)
+    ap (λ t. cond t (pos d) (pos d -ℤ pos ring)) (lt-leb d 2147483647 h)
+    ∙ ap (λ t. cond t (negsuc (ring - suc d)) (pos (d - ring))) (lt-ltb d ring k)
 
-module _ (need stamp : ℕ) (rule : Rule ℕ) where
-  near-admitted : distance need stamp < 2147483648 → Admitted need stamp rule
-  near-admitted h = record { by = distance need stamp; leads = lead-near (distance need stamp) h }
+module _ (need : ℕ) where
+  -- "0 marks a summary never filled", whatever the need
+  pub zero-unfilled : lead need 0 ≡ unfilled
+  zero-unfilled = refl
 
-  admitted-near : Admitted need stamp rule → distance need stamp < 2147483648
-  admitted-near a = go (numbers-compare (distance need stamp) 2147483648)
-    where
-      leads : (l : Lead) → lead need stamp ≡ l → T (leadsBy l)
-      leads l e = subst (λ m. T (leadsBy m)) (sym (a .leads) ∙ e) tt
+  module _ (stamp : ℕ) where
+    lead-is : (stamp ≡ 0 → ⊥) → lead need stamp ≡ ahead (cond (eqb need 0) (pos 0) (leadAt (distance need stamp)))
+    lead-is s = ap (λ t. cond t unfilled (ahead (cond (eqb need 0) (pos 0) (leadAt (distance need stamp))))) (ne-eqb stamp 0 s)
 
-      go : (distance need stamp < 2147483648) ⊎ ((distance need stamp ≡ 2147483648) ⊎ (2147483648 < distance need stamp)) → distance need stamp < 2147483648
-      go (inl h) = h
-      go (inr (inl e)) = absurd (leads tie (ap leadAt e))
-      go (inr (inr h)) = absurd (leads (ahead (negsuc (ring - suc (distance need stamp)))) (lead-far (distance need stamp) h (distance-within need stamp)))
+    pub lead-on-ring : (need ≡ 0 → ⊥) → (stamp ≡ 0 → ⊥) → lead need stamp ≡ ahead (leadAt (distance need stamp))
+    lead-on-ring n s = lead-is s ∙ ap (λ t. ahead (cond t (pos 0) (leadAt (distance need stamp)))) (ne-eqb need 0 n)
 
-  pub admitted-distance : Admitted need stamp rule ↔ (distance need stamp < 2147483648)
-  admitted-distance = (admitted-near, near-admitted)
+    -- Every need and stamp have a lead exactly if the stamp is not 0.
+    pub has-lead : ((z : ℤ) × (lead need stamp ≡ ahead z)) ↔ (stamp ≡ 0 → ⊥)
+    has-lead = (λ w e. never (w .0) (sym (ap (lead need) e) ∙ w .1), λ s. (cond (eqb need 0) (pos 0) (leadAt (distance need stamp)), lead-is s))
+      where
+        never : (z : ℤ) → unfilled ≡ ahead z → ⊥
+        never z e = let absent : _≡_ {A = ℕ} 0 1 = cc in omega arith
+
+-- "A need of 0 admits every stamp but 0, and then each lead prints as 0."
+pub lead-under-0 : (stamp : ℕ) → (stamp ≡ 0 → ⊥) → lead 0 stamp ≡ ahead (pos 0)
+lead-under-0 stamp s = lead-is 0 stamp s
+
+size-at : (d : ℕ) → d < ring → Dec (d < 2147483648) → natAbs (leadAt d) ≤ 2147483647
+size-at d k (yes h) = subst (λ z. natAbs z ≤ 2147483647) (sym (lead-near d (omega arith))) (omega arith)
+size-at d k (no h) = subst (λ z. natAbs z ≤ 2147483647) (sym (lead-far d (omega arith) k)) (omega arith)
+
+-- Leads go from −2,147,483,647 to 2,147,483,647, and both ends are reached.
+pub lead-within : (need stamp : ℕ) (z : ℤ) → lead need stamp ≡ ahead z → natAbs z ≤ 2147483647
+lead-within need stamp z e = go (ℕ-discrete stamp 0) (ℕ-discrete need 0)
+  where
+    at : (x : ℤ) → lead need stamp ≡ ahead x → natAbs x ≤ 2147483647 → natAbs z ≤ 2147483647
+    at x h = subst (λ y. natAbs y ≤ 2147483647) (same-lead (sym h ∙ e))
+
+    go : Dec (stamp ≡ 0) → Dec (need ≡ 0) → natAbs z ≤ 2147483647
+    go (yes s) c = absurd (has-lead need stamp .0 (z, e) s)
+    go (no s) (yes n) = at (pos 0) (ap (λ x. lead x stamp) n ∙ lead-under-0 stamp s) (omega arith)
+    go (no s) (no n) = at (leadAt (distance need stamp)) (lead-on-ring need stamp n s) (size-at (distance need stamp) (distance-within need stamp) (decLt (distance need stamp) 2147483648))
+
+pub highest-lead : lead 1 2147483648 ≡ ahead (pos 2147483647)
+highest-lead = refl
+
+pub lowest-lead : lead 1 2147483649 ≡ ahead (negℤ (pos 2147483647))
+lowest-lead = refl
