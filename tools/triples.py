@@ -194,7 +194,7 @@ class Maker(TrueMaker):
                     ("twelve subgoals", self.twelve, 200, "yes"), ("a hidden variable sent two ways", self.two_ways, 300, "yes"),
                     ("other stamps", self.other_stamps, 300, "yes"), ("a summary that has no say", self.no_say, 300, "yes"),
                     ("the longest of all", self.longest, 30, "yes")]
-        yield from [(self.LEFT_OUT, self.left_out_used, 1000, "no"), ("thirteen subgoals", self.thirteen, 200, "no"),
+        yield from [(self.LEFT_OUT, self.left_out_used, 1500, "no"), ("thirteen subgoals", self.thirteen, 200, "no"),
                     ("no subgoal", self.no_subgoal, 100, "no"), ("an unlike head as long", self.unlike_head, 600, "no"),
                     ("a head longer or shorter", self.longer_head, 200, "no"), ("an unsafe rewriting", self.unsafe, 500, "no"),
                     ("an unsound summary beside", self.unsound, 400, "no"), ("sixty-five summaries", self.sixty_five, 50, "no"),
