@@ -1,5 +1,5 @@
 -- What the admitted summaries yield or hold: carried to other values, and rules over it.
-use mathlib.Core.Path.{_≡_, subst}
+use mathlib.Core.Path.{_≡_}
 use mathlib.Core.Logic.{_↔_}
 use mathlib.Core.Option.{some}
 use mathlib.Core.List.{List}
@@ -20,13 +20,6 @@ yielded-carry h s keeps facts f y = record { rule = y .rule; admitted = y .admit
 
 pub yielded-more : {A : Type 0} {k : ℕ → A} {d d′ : Facts A} {s : Summaries} → ((f : Subgoal A) → d f → d′ f) → (f : Subgoal A) → Yielded k s d f → Yielded k s d′ f
 yielded-more facts f y = record { rule = y .rule; admitted = y .admitted; yields = more facts (y .yields) }
-
--- Summaries can hold just what their definitions yield.
-pub yielded-just : (s : Summaries) (d : Facts ℕ) → HoldJust s d (Yielded itself s d)
-yielded-just s d f r e = (
-  λ y. let same : y .rule ≡ r = cc (y .admitted, e) in subst (λ z. Yields itself z d (f .terms)) same (y .yields),
-  λ y. record { rule = r; admitted = e; yields = y },
-)
 
 -- Over summaries that hold just what their definitions yield, such a rule yields what it yields over what they yield.
 pub over-held : {X : Type 0} (s : Summaries) (d held : Facts ℕ) → HoldJust s d held → (p : Rule X) → OverAdmitted s p → (row : List ℕ)

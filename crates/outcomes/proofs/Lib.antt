@@ -1,6 +1,7 @@
 pub mod AsRule
 pub mod Bounds
 pub mod Demand
+pub mod Exactly
 pub mod Grants
 pub mod Once
 pub mod Own

@@ -22,11 +22,13 @@ pub data OnlyOne (P Q : Type 0) : Type 0 where
   second : (P → ⊥) → Q → OnlyOne P Q
 
 -- Finite facts, and a row that just one yields of the question over the facts and the rule over the summaries,
--- whatever is stored, if "each admitted summary holds just what its definition yields on them".
+-- whatever is stored, if "each admitted summary holds just what its definition yields on them"; and such rows that may be stored.
 pub record DiffersSomewhere (b : Book) (p : Rule ℕ) : Type 1 where
   pub facts : List (Subgoal ℕ)
   pub fit : AllFit (b .arities) facts
   pub row : List ℕ
+  pub stored : Facts ℕ
+  pub stored-just : HoldJust (admittedOf b) (Listed facts) stored
   pub differs : (held : Facts ℕ) → HoldJust (admittedOf b) (Listed facts) held → OnlyOne (Yields itself (b .question) (Listed facts) row) (Yields itself p held row)
 
 pub record Demand3 (b : Book) : Type 1 where
@@ -68,6 +70,13 @@ pub record Gave (book answer : List ℕ) (n : ℕ) : Type 1 where
   pub fewer : (p : Rule ℕ) → OverAdmitted (admittedOf value) p → length (p .body) < length rows → DiffersSomewhere value p
   -- "It has at most as many subgoals as the question."
   pub few : length rows ≤ length (value .question .body)
+
+-- "where the refusal is 10, every one of any length does"
+pub record GaveNone (book : List ℕ) : Type 1 where
+  pub value : Book
+  pub sound : SoundBook book value
+  pub never : (l : List (Subgoal (Term ℕ))) → Rewrites (admittedOf value) (value .question) l → ⊥
+  pub differ : (p : Rule ℕ) → OverAdmitted (admittedOf value) p → DiffersSomewhere value p
 
 -- "What it says yes to yields the same rows as the question on all finite facts where the summaries hold what their definitions yield"
 pub record YesSameRows (book rewriting : List ℕ) : Type 1 where

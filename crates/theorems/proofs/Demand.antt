@@ -4,13 +4,12 @@ use mathlib.Core.List.{List}
 use Prim.Native.Nat.{ℕ}
 use lib.ListN.{length, take}
 use lib.Seq.{take-at}
-use Rattle.spec.specs.Words.{Rule}
 use Rattle.spec.specs.Book.{Book, admittedOf}
 use Rattle.spec.specs.Result.{Right}
-use Rattle.spec.specs.Demand.{OverAdmitted, DiffersSomewhere, Gave}
+use Rattle.spec.specs.Demand.{Gave, GaveNone}
 use Rattle.spec.specs.LeftOut.{SameButLeftOut}
 use Rattle.spec.specs.BookLayout.{SoundBook}
-use Rattle.spec.specs.Table.{RewriterRefusal, one, read, nine, ten, Fault9, Fault10}
+use Rattle.spec.specs.Table.{RewriterRefusal, one, read, nine, ten, Fault9}
 use Rattle.spec.specs.Given.{answerBytes, Given, atFront}
 use Rattle.spec.specs.Rewriting.{Rewriting}
 use Rattle.spec.specs.Refusals.{ofBook}
@@ -36,12 +35,11 @@ gave {a = a} {a₁} {n = n} x = let g = x .given in record {
 }
 
 -- "where the refusal is 10, every one of any length does"
-pub gave-none : {book a a₁ w w₁ : List ℕ} → Rewriting book a a₁ w w₁ (Refused (ofBook 10)) → (b : Book) → SoundBook book b → (p : Rule ℕ) → OverAdmitted (admittedOf b) p → DiffersSomewhere b p
-gave-none {book} {a} {w = w} x b s = none (x .refused)
+pub gave-none : {book a a₁ w w₁ : List ℕ} → Rewriting book a a₁ w w₁ (Refused (ofBook 10)) → GaveNone book
+gave-none {book} x = none (x .refused)
   where
-    none : {answer witness : ℕ} → RewriterRefusal book answer witness (ofBook 10) → (p : Rule ℕ) → OverAdmitted (admittedOf b) p → DiffersSomewhere b p
-    none (read room r) = absurd (sound-unrefused s r)
-    none (ten room v t few never) = refused-all b s (subst (λ c. Fault10 (admittedOf c) (c .question)) (book-unique t s) never)
+    none : {answer witness : ℕ} → RewriterRefusal book answer witness (ofBook 10) → GaveNone book
+    none (ten room b s few never) = record { value = b; sound = s; never = never; differ = refused-all b s never }
 
 -- "A summary left out has no say": two books of bytes whose values differ in summaries left out alone.
 module _ {book other : List ℕ} {b c : Book} (sound : SoundBook book b) (also : SoundBook other c)

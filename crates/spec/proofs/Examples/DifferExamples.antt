@@ -10,6 +10,7 @@ use Rattle.spec.specs.Summaries.{summary, Yielded, HoldJust}
 use Rattle.spec.specs.Refresh.{admitted}
 use Rattle.spec.specs.Book.{Book, admittedOf}
 use Rattle.spec.specs.Demand.{OverAdmitted, OnlyOne, first, second, DiffersSomewhere}
+use Rattle.spec.proofs.Held.{yielded-just}
 use Rattle.spec.proofs.Decided.Equal.{eqNumber}
 use Rattle.spec.proofs.Decided.Decide.{yields-sound, yields-complete}
 use Rattle.spec.proofs.Examples.Written.{x0, x1, rule, on, stamped}
@@ -57,6 +58,8 @@ differs-at-the-start = record {
   facts = street;
   fit = street-fits;
   row = 1 ∷ [];
+  stored = Yielded itself (admittedOf book) (Listed street);
+  stored-just = yielded-just (admittedOf book) (Listed street);
   differs = λ held just. first (yields-sound eqNumber eqNumber itself starts street (1 ∷ []) tt) (λ y. yields-complete eqNumber eqNumber itself ends street (1 ∷ []) (yields-from 2 ends refl street held just (1 ∷ []) y));
 }
 
@@ -67,21 +70,20 @@ differs-at-the-end = record {
   facts = street;
   fit = street-fits;
   row = 2 ∷ [];
+  stored = Yielded itself (admittedOf book) (Listed street);
+  stored-just = yielded-just (admittedOf book) (Listed street);
   differs = λ held just. second (yields-complete eqNumber eqNumber itself starts street (2 ∷ []))
       record { value = λ x. 2; gives = refl; holds = λ g m. rw (List·Memᴰ·eq-of-singleton m) (just (fact 2 (2 ∷ [])) ends refl .1 (yields-sound eqNumber eqNumber itself ends street (2 ∷ []) tt)) };
 }
 
 -- Summary 1 has the question's own definition: no facts and no row tell the rule from it.
-holds-just : (facts : List (Subgoal ℕ)) → HoldJust (admittedOf book) (Listed facts) (Yielded itself (admittedOf book) (Listed facts))
-holds-just facts f r e = (λ y. let same : y .rule ≡ r = cc (y .admitted, e) in subst (λ z. Yields itself z (Listed facts) (f .terms)) same (y .yields), λ y. record { rule = r; admitted = e; yields = y })
-
 differs-nowhere : DiffersSomewhere book (from 1) → ⊥
 unfolding admitted
-differs-nowhere w = go (w .differs (Yielded itself (admittedOf book) (Listed (w .facts))) (holds-just (w .facts)))
+differs-nowhere w = go (w .differs (Yielded itself (admittedOf book) (Listed (w .facts))) (yielded-just (admittedOf book) (Listed (w .facts))))
   where
     go : OnlyOne (Yields itself starts (Listed (w .facts)) (w .row)) (Yields itself (from 1) (Yielded itself (admittedOf book) (Listed (w .facts))) (w .row)) → ⊥
     go (first y never) = never record { value = y .value; gives = y .gives; holds = λ g m. rw (List·Memᴰ·eq-of-singleton m) record { rule = starts; admitted = refl; yields = record { value = y .value; gives = refl; holds = y .holds } } }
-    go (second never y) = never (yields-from 1 starts refl (w .facts) (Yielded itself (admittedOf book) (Listed (w .facts))) (holds-just (w .facts)) (w .row) y)
+    go (second never y) = never (yields-from 1 starts refl (w .facts) (Yielded itself (admittedOf book) (Listed (w .facts))) (yielded-just (admittedOf book) (Listed (w .facts))) (w .row) y)
 
 -- "over admitted summaries": the first two are, the one left out is not, nor one past the last, nor number 0.
 over-the-first : OverAdmitted (admittedOf book) (from 1)
