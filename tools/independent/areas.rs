@@ -1,6 +1,6 @@
 // What the rewriter must leave in the two areas that are lent to it: the answer's and the witness's
 // bytes at their fronts, and nothing else changed; on a refusal nothing at all.
-use crate::reading::{read_book, Book, Refusal, Term};
+use crate::reading::{planted, read_book, Book, Refusal, Term};
 use crate::rewriting::{rewrite, Rewriting};
 
 /// The lengths of answer area and witness area, in the order in which they are tried.
@@ -62,6 +62,9 @@ pub fn areas(book: &[u8]) -> Vec<u8> {
                 out.extend(format!("0 0 {} {}\n", a.len(), w.len()).bytes());
                 answer[..a.len()].copy_from_slice(a);
                 witness[..w.len()].copy_from_slice(w);
+                if planted("a byte past the witness") {
+                    witness.iter_mut().skip(w.len()).take(1).for_each(|byte| *byte = 0);
+                }
             }
         }
         out.extend(answer);

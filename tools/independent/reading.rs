@@ -63,6 +63,12 @@ fn contents(book: &[u8]) -> Result<Vec<Entry<'_>>, Refusal> {
     Ok(entries)
 }
 
+/// Whether this program has this fault, to show that comparisons find it: one built for that has the fault that PLANTED names.
+pub fn planted(fault: &str) -> bool {
+    static NAMED: std::sync::OnceLock<Option<String>> = std::sync::OnceLock::new();
+    cfg!(planted) && NAMED.get_or_init(|| std::env::var("PLANTED").ok()).as_deref() == Some(fault)
+}
+
 /// What is left of a rule's bytes. None: it ends early, or something is out of range.
 struct Bytes<'a>(&'a [u8]);
 
@@ -92,8 +98,9 @@ impl<'a> Bytes<'a> {
     }
 
     fn rule(&mut self, most_subgoals: usize, width: impl Fn(usize) -> Option<usize>) -> Option<Rule> {
-        let head_length = self.byte_from(0, 8)?;
-        let subgoals = self.byte_from(1, most_subgoals)?;
+        let head_length = self.byte_from(0, if planted("a head of nine") { 9 } else { 8 })?;
+        let fewest = if planted("no subgoal") { 0 } else { 1 };
+        let subgoals = self.byte_from(fewest, most_subgoals + usize::from(planted("a subgoal too many")))?;
         let head = self.terms(head_length)?;
         let mut body = Vec::new();
         for _ in 0..subgoals {

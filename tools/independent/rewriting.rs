@@ -1,7 +1,7 @@
 // The rewriting of a sound book's question, found by trying: every way to send subgoals to subgoals,
 // and the lists of rows one after the other in the order of the specification. Slow where a book is
 // made to be hard; the comparisons use books that are not.
-use crate::reading::{Book, Refusal, Rule, Subgoal, Term};
+use crate::reading::{planted, Book, Refusal, Rule, Subgoal, Term};
 use std::cell::Cell;
 use std::collections::{BTreeMap, BTreeSet};
 
@@ -49,7 +49,7 @@ pub struct Rewriting {
 
 /// The lead of a stamp, if it has one. The ring's numbers are 1 to `u32::MAX`, so there are that many.
 pub fn lead(need: u32, stamp: u32) -> Option<i64> {
-    let numbers = u32::MAX as i64;
+    let numbers = u32::MAX as i64 + i64::from(planted("a ring with zero"));
     if stamp == 0 {
         return None;
     }
@@ -222,7 +222,7 @@ pub fn expansion(book: &Book, rows: &[Row]) -> Vec<Vec<Goal<Wide>>> {
         let rule = &book.summaries[number - 1].1;
         let becomes = |t: &Term| match (t, rule.head.iter().position(|h| h == t)) {
             (Term::Variable(_), Some(place)) => Wide::Own(terms[place]),
-            (Term::Variable(v), None) => Wide::Fresh(used, *v),
+            (Term::Variable(v), None) => Wide::Fresh(if planted("a street shared") { 0 } else { used }, *v),
             (constant, _) => Wide::Own(*constant),
         };
         rule.body.iter().map(|g| Goal { relation: g.relation, terms: g.terms.iter().map(becomes).collect() }).collect()
