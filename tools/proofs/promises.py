@@ -22,8 +22,10 @@ for path in glob.glob("crates/*/**/*", recursive=True):
     if kind == ".rt":
         public += [(path, f) for f in re.findall(r'^pub (?:extern "C" )?fn (\w+)', text, re.M)]
 
-faults = ["%s: `%s` is not in docs/PROMISES.md" % one for one in public if not re.search(r"\b%s\b" % one[1], promises)]
-for quoted in re.findall(r"`([^`\n]+)`", promises):
+quotes = re.findall(r"`([^`\n]+)`", promises)
+named = {word for quoted in quotes for word in re.findall(r"\w+", quoted)}
+faults = ["%s: `%s` is not in docs/PROMISES.md" % one for one in public if one[1] not in named]
+for quoted in quotes:
     for word in re.findall(r"[^\s(){}\[\];,.:→×≡λ⊥∈≤<+*−/]+", quoted):
         if len(word) > 1 and not word.isdigit() and word not in known and quoted != "..-once":
             faults.append("docs/PROMISES.md: `%s`: there is no %s" % (quoted, word))

@@ -36,7 +36,7 @@ pub data Lead : Type 0 where
 abbrev pub lead : ℕ → ℕ → Lead
 lead need stamp = cond (eqb stamp 0) unfilled (ahead (cond (eqb need 0) (pos 0) (leadAt (distance need stamp))))
 
--- "A summary is admitted exactly if it has a lead of 0 or more."
+-- "A summary is admitted exactly if it has a lead of 0 or more." A summary is a stamp and a rule; by this sentence the rule has no say.
 pub record Admitted (need stamp : ℕ) (rule : Rule ℕ) : Type 0 where
   pub by : ℕ
   pub leads : lead need stamp ≡ ahead (pos by)
