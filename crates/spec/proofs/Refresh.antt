@@ -1,4 +1,2 @@
 pub mod Admits
 pub mod Leads
-pub mod Ring
-pub mod Turned

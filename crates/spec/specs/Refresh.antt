@@ -19,7 +19,7 @@ unfoldable pub numberAfter : ℕ → ℕ → ℕ
 numberAfter n zero = n
 numberAfter n (suc d) = successor (numberAfter n d)
 
--- "Distances are taken on the ring": from need to stamp, both on the ring (proofs/Refresh/Ring: the stamp is that many steps after the need).
+-- "Distances are taken on the ring": from need to stamp, both on the ring (admission/proofs/Ring: the stamp is that many steps after the need).
 abbrev pub distance : ℕ → ℕ → ℕ
 distance need stamp = (stamp + (ring - need)) % ring
 

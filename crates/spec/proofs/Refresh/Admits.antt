@@ -9,8 +9,7 @@ use lib.Dec.{T}
 use Rattle.spec.specs.Words.{Rule}
 use Rattle.spec.specs.Refresh.{ring, distance, Lead, ahead, unfilled, leadAt, lead, Admitted, leadsBy, admitted}
 use Rattle.spec.proofs.Lists.Tests.{decided}
-use Rattle.spec.proofs.Refresh.Ring.{distance-within}
-use Rattle.spec.proofs.Refresh.Leads.{lead-near, lead-far, lead-on-ring, has-lead, lead-under-0}
+use Rattle.spec.proofs.Refresh.Leads.{distance-within, lead-near, lead-far, lead-on-ring, has-lead, lead-under-0}
 
 module _ (need stamp : ℕ) (rule : Rule ℕ) where
   pub admitted-test : Admitted need stamp rule → T (admitted need stamp rule)

@@ -9,7 +9,9 @@ use lib.IntN.{ℤ, pos, negsuc, _-ℤ_, negℤ, natAbs}
 use lib.Dec.{eqb}
 use borrow.Author.Tests.{lt-ltb, le-leb, lt-leb, ne-eqb}
 use Rattle.spec.specs.Refresh.{ring, distance, ahead, unfilled, leadAt, lead}
-use Rattle.spec.proofs.Refresh.Ring.{distance-within}
+
+pub distance-within : (need stamp : ℕ) → distance need stamp < ring
+distance-within need stamp = omega arith
 
 pub same-lead : {x y : ℤ} → ahead x ≡ ahead y → x ≡ y
 same-lead e = cc

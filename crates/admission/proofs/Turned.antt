@@ -4,9 +4,8 @@ use Prim.Native.Nat.{ℕ, suc, _+_, _-_, _<_, _≤_}
 use native.Mathlib.Omega.{arith}
 use native.Mathlib.Decide.{decLt, ℕ-discrete}
 use lib.IntN.{ℤ, pos, negsuc, negℤ}
 use Rattle.spec.specs.Refresh.{ring, distance, ahead, leadAt, lead}
-use Rattle.spec.proofs.Refresh.Ring.{distance-within}
-use Rattle.spec.proofs.Refresh.Leads.{same-lead, lead-near, lead-far, lead-on-ring}
+use Rattle.spec.proofs.Refresh.Leads.{distance-within, same-lead, lead-near, lead-far, lead-on-ring}
 
 -- Two distances that lead once round the ring together, or are both 0.
 module _ (d e : ℕ) (within : d < ring) (none : d ≡ 0 → e ≡ 0) (round : 0 < d → d + e ≡ ring) where

@@ -26,9 +26,6 @@ module _ (n : ℕ) (from : 1 ≤ n) (to : n ≤ ring) where
   number-after (suc d) = successor-is n d (numberAfter n d) from (number-after d) (ℕ-discrete (numberAfter n d) ring)
 
 module _ (need stamp : ℕ) where
-  pub distance-within : distance need stamp < ring
-  distance-within = omega arith
-
   module _ (need-from : 1 ≤ need) (need-to : need ≤ ring) (stamp-from : 1 ≤ stamp) (stamp-to : stamp ≤ ring) where
     reaches : (need - 1 + distance need stamp) % ring + 1 ≡ stamp
     reaches = omega arith
