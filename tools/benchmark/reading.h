@@ -1,4 +1,4 @@
-/* The reading of a book in C, unproved: one pass over the bytes, contents, relations, then rule by
+/* The reading of a book in C, and its refresh numbers, unproved: one pass over the bytes, contents, relations, then rule by
    rule, no copy. The speed of the proved programs is measured against what is built on it. */
 #include <stddef.h>
 #include <stdint.h>

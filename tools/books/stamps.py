@@ -61,5 +61,6 @@ def stamp_kinds(need, stamp):
         yield "left out, but not on a ring with 0" if is_admitted_with_zero(need, stamp) else "admitted, but not on a ring with 0"
 
 
+LEAST = 200  # so many books of each kind a comparison must have
 KINDS = ("never filled", "need 0", "never filled under need 0", "ahead across the end", "behind across the end",
          "highest lead", "lowest lead", "admitted, but not on a ring with 0", "left out, but not on a ring with 0")

@@ -79,4 +79,4 @@ ALL = (["refused %d" % n for n in range(2, 11)] + ["answer of %s" % n for n in (
           "constant or repetition in the question's head", "question with an empty head", "summary with an empty head",
           "repeated subgoal", "summary left out", *stamps.KINDS, "64 rows", "60 to 63 rows", "no row"])
 # how many books of a kind there must be
-LEAST = {kind: 200 if kind in stamps.KINDS else 1 for kind in ALL}
+LEAST = {kind: stamps.LEAST if kind in stamps.KINDS else 1 for kind in ALL}

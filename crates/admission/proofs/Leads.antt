@@ -23,8 +23,8 @@ module _ (d : ℕ) (f : d < ring) (h : 2147483647 < d) where
   behind-fits = rw behind (sfits-of (omega arith))
 
 module _ (need stamp : ℕ) where
-  pub never-filled : stamp ≡ 0 → unfilled ≡ lead need stamp
-  never-filled s = sym (ap (lead need) s)
+  pub unfilled-lead : stamp ≡ 0 → unfilled ≡ lead need stamp
+  unfilled-lead s = sym (ap (lead need) s)
 
   pub under-0 : need ≡ 0 → (stamp ≡ 0 → ⊥) → ahead (pos 0) ≡ lead need stamp
   under-0 n s = sym (ap (λ m. lead m stamp) n ∙ lead-under-0 stamp s)

@@ -1,5 +1,5 @@
 -- The distance is the one number of steps, below 4,294,967,295, from need to stamp round the ring.
-use mathlib.Core.Path.{_≡_, refl, ap, sym, _∙_}
+use mathlib.Core.Path.{_≡_, ap, _∙_}
 use mathlib.Core.Bool.{cond}
 use Prim.Native.Nat.{ℕ, zero, suc, _+_, _-_, _%_, _<_, _≤_}
 use native.Mathlib.Omega.{arith}
@@ -25,13 +25,12 @@ module _ (n : ℕ) (from : 1 ≤ n) (to : n ≤ ring) where
   number-after zero = let w : n ≡ (n - 1 + 0) % ring + 1 = omega arith in w
   number-after (suc d) = successor-is n d (numberAfter n d) from (number-after d) (ℕ-discrete (numberAfter n d) ring)
 
-module _ (need stamp : ℕ) where
-  module _ (need-from : 1 ≤ need) (need-to : need ≤ ring) (stamp-from : 1 ≤ stamp) (stamp-to : stamp ≤ ring) where
-    reaches : (need - 1 + distance need stamp) % ring + 1 ≡ stamp
-    reaches = omega arith
+module _ (need stamp : ℕ) (need-from : 1 ≤ need) (need-to : need ≤ ring) (stamp-from : 1 ≤ stamp) (stamp-to : stamp ≤ ring) where
+  reaches : (need - 1 + distance need stamp) % ring + 1 ≡ stamp
+  reaches = omega arith
 
-    pub distance-reaches : numberAfter need (distance need stamp) ≡ stamp
-    distance-reaches = number-after need need-from need-to (distance need stamp) ∙ reaches
+  pub distance-reaches : numberAfter need (distance need stamp) ≡ stamp
+  distance-reaches = number-after need need-from need-to (distance need stamp) ∙ reaches
 
-    pub distance-only : (d : ℕ) → d < ring → numberAfter need d ≡ stamp → d ≡ distance need stamp
-    distance-only d h e = omega (arith, number-after need need-from need-to d, e)
+  pub distance-only : (d : ℕ) → d < ring → numberAfter need d ≡ stamp → d ≡ distance need stamp
+  distance-only d h e = omega (arith, number-after need need-from need-to d, e)

@@ -9,14 +9,14 @@ use Rattle.spec.proofs.Refresh.Leads.{distance-within, same-lead, lead-near, le
 
 -- Two distances that lead once round the ring together, or are both 0.
 module _ (d e : ℕ) (within : d < ring) (none : d ≡ 0 → e ≡ 0) (round : 0 < d → d + e ≡ ring) where
-  minus : (m : ℕ) → m ≡ suc (ring - suc e) → negsuc (ring - suc e) ≡ negℤ (pos m)
-  minus m k = sym (ap (λ x. negℤ (pos x)) k)
+  negative-is : (m : ℕ) → m ≡ suc (ring - suc e) → negsuc (ring - suc e) ≡ negℤ (pos m)
+  negative-is m k = sym (ap (λ x. negℤ (pos x)) k)
 
   turned : Dec (d ≡ 0) → Dec (d < 2147483648) → leadAt e ≡ negℤ (leadAt d)
   turned (yes h) c = ap leadAt (none h) ∙ sym (ap (λ x. negℤ (leadAt x)) h)
   turned (no h) (yes k) =
       let r = round (omega arith) in
-      lead-far e (omega arith) (omega arith) ∙ minus d (omega arith) ∙ sym (ap negℤ (lead-near d (omega arith)))
+      lead-far e (omega arith) (omega arith) ∙ negative-is d (omega arith) ∙ sym (ap negℤ (lead-near d (omega arith)))
   turned (no h) (no k) =
       let r = round (omega arith) in
       lead-near e (omega arith) ∙ ap pos (omega arith) ∙ sym (ap negℤ (lead-far d (omega arith) within))

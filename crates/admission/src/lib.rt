@@ -10,6 +10,12 @@ pub mod summaries; // whether a summary of a sound book is admitted
 
 use spec::Lead;
 
+// "the ring 1 to 4,294,967,295"
+const RING: u32 = 4294967295;
+
+// "from 0 to 2,147,483,647 as leads"
+const HIGHEST_LEAD: u32 = 2147483647;
+
 // How many steps it is round the ring from need to stamp.
 fn steps(need: u32, stamp: u32) -> u32
     requires { ⌜ 1 ≤ need ⌝ }
@@ -33,10 +39,10 @@ pub fn lead_of(need: u32, stamp: u32) -> Lead
         return Lead::Ahead(0);
     }
     let distance = steps(need, stamp);
-    if distance <= 2147483647 {
+    if distance <= HIGHEST_LEAD {
         return Lead::Ahead(distance as i32);
     }
-    let behind = (4294967295 - distance) as i32;
+    let behind = (RING - distance) as i32;
     let lead = -behind;
     Lead::Ahead(lead)
 }

@@ -6,7 +6,7 @@ use Prim.Native.Nat.{ℕ}
 use Rattle.spec.specs.Book.{Book, admittedOf}
 use Rattle.spec.specs.BookLayout.{SoundBook}
 use Rattle.spec.specs.Refusals.{ofEntry}
-use Rattle.spec.specs.Table.{Fault1, Fault9, Fault10, RewriterRefusal, one, read, nine, ten}
+use Rattle.spec.specs.Table.{Fault1, Fault9, Fault10, RewriterRefusal, one, nine, ten}
 
 module _ (book : List ℕ) (answer witness : ℕ) where
   -- "answer area below 534 bytes, or witness area below 120 | 0"

@@ -1,5 +1,5 @@
 use native.Mathlib.Omega.{arith}
-use Rattle.admission.proofs.Leads.{never-filled, under-0, low, high, behind-fits}
+use Rattle.admission.proofs.Leads.{unfilled-lead, under-0, low, high, behind-fits}
 use borrow.Author.Needs.{needs}
 use Rattle.admission.proofs.lead_of.Statement.{statement}
 use Rattle.admission.proofs.lead_of.Tie as tie
@@ -7,7 +7,7 @@ use Rattle.admission.proofs.lead_of.Tie as tie
 returns : tie.Need-returns
 returns c =
     let a = c .before .args in
-    never-filled (a .need) (a .stamp) (omega arith)
+    unfilled-lead (a .need) (a .stamp) (omega arith)
 
 returns-2 : tie.Need-returns-2
 returns-2 c =
