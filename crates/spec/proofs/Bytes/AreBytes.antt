@@ -65,7 +65,7 @@ module _ (b : Book) (v : SoundValue b) where
   arities = each b.arities (λ a m. let range = v.arities.range a m in omega arith)
 
   others : Written (joined (bodies (map entry_of b.summaries)))
-  others = rw map-map (all (λ s. rule_bytes s.rule) b.summaries (λ s m. within v.arities summary_most (omega arith) s.rule (v.summaries s m).within))
+  others = rw (map-map (λ (e : StampedBody). e.body) entry_of b.summaries) (all (λ s. rule_bytes s.rule) b.summaries (λ s m. within v.arities summary_most (omega arith) s.rule (v.summaries s m).within))
 
   book : Written (book_bytes b)
   unfolding book_bytes

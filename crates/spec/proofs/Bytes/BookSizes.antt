@@ -7,7 +7,7 @@ use lib.ListN.{length, length-append, length-map}
 use Rattle.spec.specs.Summaries.{joined}
 use Rattle.spec.specs.Book.{Book}
 use Rattle.spec.specs.RuleLayout.{rule_bytes}
-use Rattle.spec.specs.BookLayout.{entries, contents_end, question_most, entry_of, entries_of, bodies, book_bytes, SoundValue, SoundBook}
+use Rattle.spec.specs.BookLayout.{StampedBody, entries, contents_end, question_most, entry_of, entries_of, bodies, book_bytes, SoundValue, SoundBook}
 use Rattle.spec.specs.Refusals.{longest}
 use Rattle.spec.proofs.Lists.Joined.{joined-most}
 use Rattle.spec.proofs.Bytes.Sizes.{within-least, question-most, summary-most}
@@ -30,7 +30,7 @@ module _ (b : Book) where
   module _ (v : SoundValue b) where
     others-most : length others ≤ 370 * length b.summaries
     others-most =
-        rw map-map (joined-most (λ s. rule_bytes s.rule) 370 b.summaries (λ s m. summary-most v.arities s.rule (v.summaries s m).within))
+        rw (map-map (λ (e : StampedBody). e.body) entry_of b.summaries) (joined-most (λ s. rule_bytes s.rule) 370 b.summaries (λ s m. summary-most v.arities s.rule (v.summaries s m).within))
 
     pub book-least : 35 ≤ length (book_bytes b)
     unfolding contents_end entries

@@ -6,7 +6,7 @@ use mathlib.Core.List.{List}
 use Prim.Native.Nat.{ℕ}
 use native.Mathlib.Omega.{arith}
 use lib.ListN.{length}
-use lib.Dec.{T, not_t, leb, leb→le, le→leb, nleb→lt, eqb, eqb→eq}
+use lib.Dec.{T, not_T, leb, leb→le, le→leb, nleb→lt, eqb, eqb→eq}
 use Rattle.spec.specs.BookLayout.{contents_end}
 use Rattle.spec.specs.Contents.{count, entries_in, offset_at, stamp_at, part_at, begin_at, NoGaps, RightRelations}
 use Rattle.spec.specs.Refusals.{longest, Fault2}
@@ -32,7 +32,7 @@ module _ (book : List ℕ) where
     where
       go : (b : Bool) → leb 2 (length book) ≡ b → Fault2 book
       go false e = inl (nleb→lt 2 (length book) (rw e tt))
-      go true e = inr (nleb→lt (length book) longest (not_t (leb (length book) longest) (λ l. h (and_both (leb 2 (length book)) (leb (length book) longest) (rw e tt) l))))
+      go true e = inr (nleb→lt (length book) longest (not_T (leb (length book) longest) (λ l. h (and_both (leb 2 (length book)) (leb (length book) longest) (rw e tt) l))))
 
   -- "book ends inside the contents, or offsets and lengths break the rule of no gaps"
   abbrev begins : ℕ → Bool

@@ -5,7 +5,7 @@ use mathlib.Core.Option.{Option, some, none}
 use mathlib.Core.List.{List}
 use Prim.Native.Nat.{ℕ, zero, suc, ◌+◌, ◌<◌, ◌≤◌}
 use native.Mathlib.Omega.{arith}
-use lib.Dec.{T, not_t, leb, leb→le, nleb→lt, ltb, ltb→lt, lt→ltb}
+use lib.Dec.{T, not_T, leb, leb→le, nleb→lt, ltb, ltb→lt, lt→ltb}
 use Rattle.spec.specs.Words.{Rule}
 use Rattle.spec.specs.Numbers.{Bytes}
 use Rattle.spec.specs.BookLayout.{entries, most_summaries}
@@ -110,4 +110,4 @@ module _ (book : List ℕ) where
         past-3 s f = picked Says (no_gaps book) from5 (some (of_book 4)) (past-4 s f) (λ n. four (sized-sound book s) (λ m. omega (arith, leb→le (count book) most_summaries f)) (λ g. n (gaps-complete book g)))
 
         past-2 : T (sized book) → Says from3
-        past-2 s = picked Says (leb (count book) most_summaries) from4 (some (of_book 3)) (past-3 s) (λ n. three (sized-sound book s) (nleb→lt (count book) most_summaries (not_t (leb (count book) most_summaries) n)))
+        past-2 s = picked Says (leb (count book) most_summaries) from4 (some (of_book 3)) (past-3 s) (λ n. three (sized-sound book s) (nleb→lt (count book) most_summaries (not_T (leb (count book) most_summaries) n)))

@@ -81,6 +81,7 @@ constant-not : (c : ℕ) (ts : List (Term ℕ)) → con c ∈ ts → DistinctVar
 constant-not c (con d ∷ ts) m h = h
 constant-not c (var x ∷ ts) (Memᴰ.head e) h = let z : ◌≡◌ {A = ℕ} 0 1 = cc in omega arith
 constant-not c (var x ∷ ts) (Memᴰ.tail m) h = constant-not c ts m h.1
+constant-not c [] m h = elim m [ ]
 
 twice-not : (ts : List (Term ℕ)) (x i j : ℕ) → i < j → place ts i ≡ some (var x) → place ts j ≡ some (var x) → DistinctVariables ts → ⊥
 twice-not [] x i j l p q h = nothing p

@@ -4,7 +4,7 @@ use mathlib.Core.List.Memᴰ
 use mathlib.Core.List.{List, [], ◌∷◌}
 use Prim.Native.Nat.{ℕ, ◌≤◌}
 use lib.ListN.{length, get_or}
-use lib.Dec.{T, T_not, not_t, leb, leb→le, le→leb, ltb, ltb→lt, eqb, eqb→eq}
+use lib.Dec.{T, T_not, not_T, leb, leb→le, le→leb, ltb, ltb→lt, eqb, eqb→eq}
 use Rattle.spec.specs.Words.{◌∈◌, Term, var, con, Subgoal, Rule, DistinctVariables, Fits}
 use Rattle.spec.specs.Book.{Summary, Book}
 use Rattle.spec.specs.RuleLayout.{TermWithin, TermsWithin, RuleWithin}
@@ -39,7 +39,7 @@ distinct-sound (con c ∷ ts) h = absurd h
 pub distinct-complete : (ts : List (Term ℕ)) → DistinctVariables ts → T (distinct ts)
 distinct-complete [] h = tt
 distinct-complete (con c ∷ ts) h = h
-distinct-complete (var x ∷ ts) h = and_both (not (any ((eq_term eq_number).test (var x)) ts)) (distinct ts) (not_t (any ((eq_term eq_number).test (var x)) ts) again) (distinct-complete ts h.1)
+distinct-complete (var x ∷ ts) h = and_both (not (any ((eq_term eq_number).test (var x)) ts)) (distinct ts) (not_T (any ((eq_term eq_number).test (var x)) ts) again) (distinct-complete ts h.1)
   where
     again : T (any ((eq_term eq_number).test (var x)) ts) → ⊥
     again a = let w = any-sound ((eq_term eq_number).test (var x)) ts a in h.0 (Memᴰ.cast ((eq_term eq_number).sound (var x) w.0 w.2) w.1)

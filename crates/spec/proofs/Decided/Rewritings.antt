@@ -80,8 +80,8 @@ module _ (s : Summaries) (q : Rule ℕ) where
             (candidates-in (all_rows s q) rows.rising l (ascending-rising l w.ascending) (λ g i. all_rows-complete s q safe g (w.rows g i)))
             (equivalent-complete eq_number s q (rewriting q l) w.equivalent)
 
-    pub answer_is : (l : RowList) → (answer ≡ some l) ↔ Answer s q l
-    answer_is = enumerates-first shorter_order rewritings rewritings-enumerate
+    pub answer-is : (l : RowList) → (answer ≡ some l) ↔ Answer s q l
+    answer-is = enumerates-first shorter_order rewritings rewritings-enumerate
 
     pub answer-exists : (l : RowList) → Rewrites s q l → (m : RowList) × Answer s q m
     answer-exists = enumerates-some rewritings rewritings-enumerate

@@ -68,6 +68,7 @@ first-of-three = record { holds = Memᴰ.tail (Memᴰ.head refl); least = least 
     least n (Memᴰ.head e) = inr (omega arith)
     least n (Memᴰ.tail (Memᴰ.head e)) = inl (sym e)
     least n (Memᴰ.tail (Memᴰ.tail (Memᴰ.head e))) = inr (omega arith)
+    least n (Memᴰ.tail (Memᴰ.tail (Memᴰ.tail x12))) = elim x12 [ ]
 
 not-the-first : First OneOf ◌<◌ 2 → ⊥
 not-the-first f = ⊎_elim (λ e. omega (arith, e)) (λ h. omega (arith, h)) (f.least 1 (Memᴰ.tail (Memᴰ.head refl)))
@@ -79,6 +80,7 @@ none-is-first f = go f.holds
     go (Memᴰ.head e) = omega (arith, e)
     go (Memᴰ.tail (Memᴰ.head e)) = omega (arith, e)
     go (Memᴰ.tail (Memᴰ.tail (Memᴰ.head e))) = omega (arith, e)
+    go (Memᴰ.tail (Memᴰ.tail (Memᴰ.tail x12))) = elim x12 [ ]
 
 -- "All count from 1."
 from_one : map (place {A = ℕ} (5 ∷ 6 ∷ [])) (0 ∷ 1 ∷ 2 ∷ 3 ∷ []) ≡ none ∷ some 5 ∷ some 6 ∷ none ∷ []

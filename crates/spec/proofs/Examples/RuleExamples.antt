@@ -72,6 +72,7 @@ constant-in-the-head d = d.1
 all_fit : AllFit (2 ∷ 1 ∷ []) (on 0 (x0 ∷ x1 ∷ []) ∷ on 1 (con 8 ∷ []) ∷ [])
 all_fit g (Memᴰ.head e) = rw e record { known = lit< tt; long = refl }
 all_fit g (Memᴰ.tail (Memᴰ.head e)) = rw e record { known = lit< tt; long = refl }
+all_fit g (Memᴰ.tail (Memᴰ.tail x8)) = elim x8 [ ]
 
 last-unfit : AllFit (2 ∷ 1 ∷ []) (on 0 (x0 ∷ x1 ∷ []) ∷ on 1 (x0 ∷ x1 ∷ []) ∷ []) → ⊥
 last-unfit f = let e : ◌≡◌ {A = ℕ} 2 1 = (f (on 1 (x0 ∷ x1 ∷ [])) (Memᴰ.tail (Memᴰ.head refl))).long in omega arith

@@ -6,7 +6,7 @@ use mathlib.Core.List.Memᴰ
 use mathlib.Core.List.{List, [], ◌∷◌, map}
 use Prim.Native.Nat.{ℕ, zero, suc, ◌+◌, ◌≤◌, ◌<◌, ◌-◌}
 use native.Mathlib.Omega.{arith}
-use lib.Dec.{eqb, eqb→eq, not_t, T_not}
+use lib.Dec.{eqb, eqb→eq, not_T, T_not}
 use lib.ListN.{length, get_or}
 use borrow.Author.Tests.{eqb-true, eqb-false, eq-eqb}
 use Rattle.spec.specs.Words.{◌∈◌}
@@ -33,6 +33,7 @@ module _ {A : Type 0} (d : A) where
 
   pub in-get_or : {a : A} (l : List A) → a ∈ l → (n : ℕ) × (n < length l) × (get_or l n d ≡ a)
   in-get_or (b ∷ l) (Memᴰ.head e) = (0, omega arith, sym e)
+  in-get_or [] x' = elim x' [ ]
   in-get_or (b ∷ l) (Memᴰ.tail m) = let w = in-get_or l m in (suc w.0, omega arith, w.2)
 
 pub rising-get_or : {A : Type 0} (before : A → A → Type 0) (d : A) (l : List A) → Rising before l → (u v : ℕ) → u < v → v < length l → before (get_or l u d) (get_or l v d)
@@ -98,7 +99,7 @@ without r l = passing (other r) l
 
 module _ (r : ℕ) (l : List ℕ) where
   pub without_in : (u : ℕ) → u ∈ l → (u ≡ r → ⊥) → u ∈ without r l
-  without_in u i n = passing-in (other r) l i (not_t (eqb u r) (λ t. n (eqb→eq u r t)))
+  without_in u i n = passing-in (other r) l i (not_T (eqb u r) (λ t. n (eqb→eq u r t)))
 
   pub without-out : (u : ℕ) → u ∈ without r l → (u ∈ l) × (u ≡ r → ⊥)
   without-out u i = let w = passing-out (other r) l i in (w.0, λ e. T_not (eqb u r) w.1 (rw (eq-eqb u r e) tt))

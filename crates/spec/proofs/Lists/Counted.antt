@@ -45,6 +45,7 @@ place-within (b ∷ l) (suc (suc n)) a e = let r = place-within l (suc n) a e in
 pub from_one : {A : Type 0} {a : A} (l : List A) → a ∈ l → (n : ℕ) × (place l (suc n) ≡ some a)
 from_one (b ∷ l) (Memᴰ.head e) = (zero, ap some (sym e))
 from_one (b ∷ l) (Memᴰ.tail i) = let w = from_one l i in (suc w.0, w.1)
+from_one {A = A} {a = a} [] x' = elim x' [ ]
 
 -- each member has a place, and what has a place is a member
 pub place_of : {A : Type 0} {a : A} (l : List A) → a ∈ l → (n : ℕ) × (place l n ≡ some a)

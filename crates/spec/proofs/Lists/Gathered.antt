@@ -16,6 +16,7 @@ gather f (a ∷ l) = f a ++ gather f l
 pub gather-in : {A B : Type 0} (f : A → List B) {a : A} {b : B} (l : List A) → a ∈ l → b ∈ f a → b ∈ gather f l
 gather-in f {b = b} (c ∷ l) (Memᴰ.head e) i = Memᴰ.append_left (gather f l) (subst (λ z. b ∈ f z) e i)
 gather-in f (c ∷ l) (Memᴰ.tail m) i = Memᴰ.append_right (f c) (gather-in f l m i)
+gather-in {A = A} {B = B} f {a = a} {b = b} [] x'' i = elim x'' [ ]
 
 pub gather-out : {A B : Type 0} (f : A → List B) {b : B} (l : List A) → b ∈ gather f l → (a : A) × (a ∈ l) × (b ∈ f a)
 gather-out f [] m = absurd (Memᴰ.not-nil m)
@@ -52,6 +53,7 @@ passing-in p {a} (b ∷ l) m h = go (λ i. passing-in p l i h) (p b) refl m
     go rest true e (Memᴰ.tail i) = Memᴰ.tail (rest i)
     go rest false e (Memᴰ.head q) = absurd (fails e (subst (λ z. T (p z)) q h))
     go rest false e (Memᴰ.tail i) = rest i
+passing-in {A = A} p {a = a} [] m h = elim m [ ]
 
 -- The first element.
 abbrev pub first : {A : Type 0} → List A → Option A
@@ -66,6 +68,7 @@ map_same f g (a ∷ l) h = ap₂ ◌∷◌ (h a (Memᴰ.head refl)) (map_same f 
 pub same_map : {A B : Type 0} (f g : A → B) (l : List A) → map f l ≡ map g l → (a : A) → a ∈ l → f a ≡ g a
 same_map f g (b ∷ l) e a (Memᴰ.head p) = ap f p ∙ head-eq_of_cons-eq e ∙ ap g (sym p)
 same_map f g (b ∷ l) e a (Memᴰ.tail i) = same_map f g l (tail-eq_of_cons-eq e) a i
+same_map {A = A} {B = B} f g [] e a x'' = elim x'' [ ]
 
 pub map-itself : {A : Type 0} (l : List A) → map (λ a. a) l ≡ l
 map-itself [] = refl
@@ -74,6 +77,7 @@ map-itself (a ∷ l) = ap (◌∷◌ a) (map-itself l)
 pub map-in : {A B : Type 0} (f : A → B) (l : List A) (a : A) → a ∈ l → f a ∈ map f l
 map-in f (b ∷ l) a (Memᴰ.head e) = Memᴰ.head (ap f e)
 map-in f (b ∷ l) a (Memᴰ.tail i) = Memᴰ.tail (map-in f l a i)
+map-in {A = A} {B = B} f [] a x' = elim x' [ ]
 
 pub map-append : {A B : Type 0} (f : A → B) (l m : List A) → map f (l ++ m) ≡ map f l ++ map f m
 map-append f [] m = refl

@@ -36,3 +36,4 @@ joined-out (l ∷ ls) m = ⊎_elim (λ i. (l, Memᴰ.head refl, i)) (λ i. let w
 pub joined_in : {A : Type 0} {a : A} (l : List A) (ls : List (List A)) → l ∈ ls → a ∈ l → a ∈ joined ls
 joined_in {a = a} l (m ∷ ls) (Memᴰ.head e) i = Memᴰ.append_left (joined ls) (subst (λ k. a ∈ k) e i)
 joined_in l (m ∷ ls) (Memᴰ.tail j) i = Memᴰ.append_right m (joined_in l ls j i)
+joined_in {A = A} {a = a} l [] x'' i = elim x'' [ ]

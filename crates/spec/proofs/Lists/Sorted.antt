@@ -68,6 +68,7 @@ module _ {A : Type 0} {Before : A → A → Type 0} (o : Strict Before) where
   pub sorted-in : (l : List A) (c : A) → c ∈ l → c ∈ sorted l
   sorted-in (a ∷ l) c (Memᴰ.head e) = insert-in a (sorted l) c (inl e)
   sorted-in (a ∷ l) c (Memᴰ.tail i) = insert-in a (sorted l) c (inr (sorted-in l c i))
+  sorted-in [] c x' = elim x' [ ]
 
   pub sorted-rising : (l : List A) → Rising Before (sorted l)
   sorted-rising [] = tt

@@ -56,6 +56,7 @@ any p (a ∷ l) = p a || any p l
 pub every-sound : {A : Type 0} (p : A → Bool) (l : List A) → T (every p l) → (a : A) → a ∈ l → T (p a)
 every-sound p (b ∷ l) h a (Memᴰ.head e) = subst (λ c. T (p c)) (sym e) (and_parts (p b) (every p l) h).0
 every-sound p (b ∷ l) h a (Memᴰ.tail i) = every-sound p l (and_parts (p b) (every p l) h).1 a i
+every-sound {A = A} p [] h a x'' = elim x'' [ ]
 
 pub every-complete : {A : Type 0} (p : A → Bool) (l : List A) → ((a : A) → a ∈ l → T (p a)) → T (every p l)
 every-complete p [] h = tt
@@ -68,6 +69,7 @@ any-sound p (a ∷ l) h = ⊎_elim (λ t. (a, Memᴰ.head refl, t)) (λ t. let w
 pub any-complete : {A : Type 0} (p : A → Bool) (l : List A) (a : A) → a ∈ l → T (p a) → T (any p l)
 any-complete p (b ∷ l) a (Memᴰ.head e) h = or_left (p b) (any p l) (subst (λ c. T (p c)) e h)
 any-complete p (b ∷ l) a (Memᴰ.tail i) h = or_right (p b) (any p l) (any-complete p l a i h)
+any-complete {A = A} p [] a x'' h = elim x'' [ ]
 
 pub says_both : {t : Bool} → t ≡ true → t ≡ false → ⊥
 says_both y n = fails n (passes y)
