@@ -1,7 +1,7 @@
 // What a step of the loading answers.
 
 // A step that looks for one fault.
-#[derive(Drop)]
+#[derive(Clone, Copy)]
 pub enum Step {
     Passed,
     Fault,

@@ -18,14 +18,14 @@ use task::terms::{alike, noted, stands, width};
 const MOST: u64 = USES_GOALS as u64;
 
 // Whether it is in vain, and then why.
-#[derive(Drop)]
+#[derive(Clone, Copy)]
 pub struct Outlook {
     pub vain: bool,
     pub why: Reasons,
 }
 
 // Of the subgoals that want a row not yet in use: how many, how many of them each row has a target for, and their slots.
-#[derive(Drop)]
+#[derive(Clone, Copy)]
 struct Wants {
     many: u64,
     served: [u64; MOST_ROWS],

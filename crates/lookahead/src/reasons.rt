@@ -6,14 +6,14 @@ ghost use Rattle.lookahead.specs.Steps.{blaming, shorting, joining, seeing, rows
 use task::terms::noted;
 
 // Why a search fails: the slots whose bindings stood in the way, and whether more rows might have helped.
-#[derive(Drop)]
+#[derive(Clone, Copy)]
 pub struct Reasons {
     pub slots: u64,
     pub short: bool,
 }
 
 // Sets of rows, those in use and those that may be taken; and how many more may be.
-#[derive(Drop)]
+#[derive(Clone, Copy)]
 pub struct Rows {
     pub used: u64,
     pub may: u64,
@@ -21,7 +21,7 @@ pub struct Rows {
 }
 
 // Of a row: whether it is in use or may be taken, whether the rows left suffice for that, whether it was in use, and the rows once it is entered.
-#[derive(Drop)]
+#[derive(Clone, Copy)]
 pub struct Entered {
     pub allowed: bool,
     pub afforded: bool,

@@ -14,13 +14,13 @@ use lookahead::reasons::{
 use task::terms::{alike, noted, opened, stands, width};
 
 // The places of the source subgoals, or that there are none.
-#[derive(Drop)]
+#[derive(Clone, Copy)]
 pub struct Places {
     pub ok: bool,
     pub ks: [u16; USES_GOALS],
 }
 
-#[derive(Drop)]
+#[derive(Clone, Copy)]
 struct Placed {
     ok: bool,
     why: Reasons,

@@ -15,14 +15,14 @@ use spec::MOST_HEAD;
 // a verdict tells the fault, so those who ask for one find it here
 
 // A whole rule: the notes of its head and of its body.
-#[derive(Drop)]
+#[derive(Clone, Copy)]
 pub enum Whole {
     Rule(Marks, Marks),
     Bad(Fault),
 }
 
 // What is to be said of a rule.
-#[derive(Drop)]
+#[derive(Clone, Copy)]
 pub enum Verdict {
     Sound,
     Broken(Fault),

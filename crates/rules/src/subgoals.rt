@@ -11,7 +11,7 @@ use spec::VARIABLES;
 const VARIABLE_END: u32 = VARIABLES as u32;
 
 // The ways to break the layout.
-#[derive(Drop)]
+#[derive(Clone, Copy)]
 pub enum Fault {
     Count,
     Relation,
@@ -22,14 +22,14 @@ pub enum Fault {
 }
 
 // What is noted of terms on the way: their variables, and whether they are distinct variables.
-#[derive(Drop)]
+#[derive(Clone, Copy)]
 pub struct Marks {
     pub vars: u64,
     pub plain: bool,
 }
 
 // One step of reading: the place of the next byte with the notes so far, or the first fault.
-#[derive(Drop)]
+#[derive(Clone, Copy)]
 pub enum Step {
     Next(usize, Marks),
     Bad(Fault),

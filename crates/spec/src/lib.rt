@@ -5,28 +5,28 @@
 // A refusal: the table's number, and its place, which is the entry of a faulty rule and 0 for all else.
 // Callers in C are told a sound book as number 0 at place 0.
 #[repr(C)]
-#[derive(Drop)]
+#[derive(Clone, Copy)]
 pub struct Reason {
     pub number: u8,
     pub place: usize,
 }
 
 // A sound book, or its refusal.
-#[derive(Drop)]
+#[derive(Clone, Copy)]
 pub enum Reading {
     Sound,
     Refused(Reason),
 }
 
 // Of contents: the count of summaries, or the refusal.
-#[derive(Drop)]
+#[derive(Clone, Copy)]
 pub enum Loaded {
     Good(usize),
     Refused(Reason),
 }
 
 // An entry of the contents.
-#[derive(Drop)]
+#[derive(Clone, Copy)]
 pub struct Entry {
     pub offset: u32,
     pub length: u32,
@@ -34,14 +34,14 @@ pub struct Entry {
 }
 
 // A summary never filled is kept apart: it has no lead.
-#[derive(Drop)]
+#[derive(Clone, Copy)]
 pub enum Lead {
     Ahead(i32),
     Unfilled,
 }
 
 // The lengths of answer and witness, or the refusal.
-#[derive(Drop)]
+#[derive(Clone, Copy)]
 pub enum Outcome {
     Done(usize, usize),
     Refused(Reason),
