@@ -1,0 +1,6 @@
+use borrow.Author.Rules.{rules}
+use Rattle.bits.proofs.Laws.{with-is}
+use Rattle.bits.proofs.add.Goals as goal
+
+pub returns : goal.returns
+returns c = with-is c.args.set c.args.x c.requires
