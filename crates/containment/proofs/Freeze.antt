@@ -36,6 +36,7 @@ below-above c (var x ∷ ts) (Memᴰ.head e) = let z : ◌≡◌ {A = ℕ} 0 1 =
 below-above c (var x ∷ ts) (Memᴰ.tail m) = below-above c ts m
 below-above c (con b ∷ ts) (Memᴰ.head e) = let z : c ≡ b = cc in omega arith
 below-above c (con b ∷ ts) (Memᴰ.tail m) = omega (arith, below-above c ts m)
+below-above {X = X} c [] x' = elim x' [ ]
 
 -- A number above every constant of the rule.
 abbrev pub high : {X : Type 0} → Rule X → ℕ
@@ -57,6 +58,7 @@ module _ {Y : Type 0} (e : Eq Y) where
       go ih true q m = term-sound e t (var y) (passes q)
       go ih false q (Memᴰ.head p) = absurd (fails q (subst (λ z. T (term_test e z (var y))) p (term-same e (var y))))
       go ih false q (Memᴰ.tail m) = ih m
+  numbered [] y m = elim m [ ]
 
   module _ (base : ℕ) (r : Rule Y) where
     abbrev pub freeze : Y → ℕ

@@ -36,6 +36,7 @@ marks-keep (t ∷ ts) m x h = marks-keep ts (mark m t) x (mark-keeps m t x h)
 pub marks-note : (ts : List (Term ℕ)) (m : Marks) (x : ℕ) → var x ∈ ts → Has (marks m ts).vars x
 marks-note (t ∷ ts) m x (Memᴰ.head e) = marks-keep ts (mark m t) x (subst (λ s. Has (mark m s).vars x) e (mark-notes m x))
 marks-note (t ∷ ts) m x (Memᴰ.tail i) = marks-note ts (mark m t) x i
+marks-note [] m x x3 = elim x3 [ ]
 
 pub marks-cases : (ts : List (Term ℕ)) (m : Marks) (x : ℕ) → Has (marks m ts).vars x → Has m.vars x ⊎ (var x ∈ ts)
 marks-cases [] m x h = inl h
