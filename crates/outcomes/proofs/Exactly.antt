@@ -15,6 +15,7 @@ module _ (book : List ℕ) (answer witness : ℕ) where
     where
       there : {q : ℕ} → RewriterRefusal book answer witness (of_entry 1 q) → (q ≡ 0) × Fault1 answer witness
       there (one f) = (refl, f)
+      there {q = q} (Rattle.spec.specs.Table.read _ x4) = elim x4 [ ]
 
   -- "more than 64 summary rows | 0"
   pub refused-9 : (p : ℕ) → RewriterRefusal book answer witness (of_entry 9 p)
@@ -23,6 +24,7 @@ module _ (book : List ℕ) (answer witness : ℕ) where
     where
       there : {q : ℕ} → RewriterRefusal book answer witness (of_entry 9 q) → (q ≡ 0) × (Fault1 answer witness → ⊥) × ((b : Book) × SoundBook book b × Fault9 (admitted_of b) b.question)
       there (nine room b s f) = (refl, room, (b, s, f))
+      there {q = q} (Rattle.spec.specs.Table.read _ x4) = elim x4 [ ]
 
   -- "no equivalent rewriting | 0"
   pub refused-10 : (p : ℕ) → RewriterRefusal book answer witness (of_entry 10 p)
@@ -32,3 +34,4 @@ module _ (book : List ℕ) (answer witness : ℕ) where
       there : {q : ℕ} → RewriterRefusal book answer witness (of_entry 10 q)
           → (q ≡ 0) × (Fault1 answer witness → ⊥) × ((b : Book) × SoundBook book b × (Fault9 (admitted_of b) b.question → ⊥) × Fault10 (admitted_of b) b.question)
       there (ten room b s few never) = (refl, room, (b, s, few, never))
+      there {q = q} (Rattle.spec.specs.Table.read _ x4) = elim x4 [ ]

@@ -23,7 +23,7 @@ load-unique book (Refused r) (Refused s) p q = ap Refused (refused-once book p.0
 
 -- Two parts that lie in the book at one place and hold the same bytes.
 pub record Same (p q : Lent) : Type 0 where
-  pub place : p.ptr ≡ q.ptr
+  pub place : p.ref_ptr ≡ q.ref_ptr
   pub bytes : p.now ≡ q.now
 
 same : (book : Lent) (from : ℕ) (bytes : List ℕ) (p q : Lent) → LiesIn book from bytes p → LiesIn book from bytes q → Same p q
@@ -38,6 +38,6 @@ module _ (book : Lent) (i : ℕ) (p q : Lent) (a : EntryPart book i p) (b : Entr
 
   pub entry-unique : Same p q
   entry-unique = record {
-    place = λ k. (positive (ℕ_discrete p.ptr.0 q.ptr.0) (never-differ (λ s j. (s.place j).0)) k, positive (ℕ_discrete p.ptr.1 q.ptr.1) (never-differ (λ s j. (s.place j).1)) k);
+    place = λ k. (positive (ℕ_discrete p.ref_ptr.0 q.ref_ptr.0) (never-differ (λ s j. (s.place j).0)) k, positive (ℕ_discrete p.ref_ptr.1 q.ref_ptr.1) (never-differ (λ s j. (s.place j).1)) k);
     bytes = positive (List-discrete ℕ_discrete p.now q.now) (never-differ (λ s. s.bytes));
   }
