@@ -9,6 +9,7 @@ use Rattle.task.specs.Task.{posed}
 use Rattle.task.proofs.Slots.{stood-none}
 use Rattle.task.proofs.Stepping.{Guessed, guessed-start, guessed-same, guessed-new, leads-beyond, leads-relation, leads-unlike, leads-on}
 use Rattle.task.proofs.pass.step.Goals as goal
+use Rattle.task.proofs.pass.step.Goals.{then-have-eq0, else-have-eq0+else-not-alike}
 
 pub returns-then-own-k : goal.returns-then-own-k
 returns-then-own-k c =
@@ -149,19 +150,14 @@ returns-then-not-alike c =
 
 pub loop-a-preserved : goal.loop-a-preserved
 loop-a-preserved c =
-    let if3 = c.if-have-eq0 in
     let stands = c.stands-have in
-    let loop-test = c.loop-a-test in
     let l = c.loop-a in
-    let width = c.width-a-end in
-    let if1 = c.if-own-k in
-    let a = c.args in
     (
-      omega (arith, loop-test.true),
-      ⊎_elim
-          (λ y. rw y.1 (guessed-new _ _ _ _ _ _ l.invariant.1 (sym stands.ensures ∙ y.0.taken) (c.requires.sized.solid a.k l.a if1.false (omega (arith, width.ensures.1, loop-test.true)))))
-          (λ y. rw y.3 (guessed-same _ _ _ _ _ _ l.invariant.1 (λ e. y.0.left (stands.ensures ∙ e)) (sym stands.ensures ∙ eqb-true _ _ (sym y.1.ensures ∙ not-false _ y.2.left))))
-          if3.branch,
+      omega (arith, c.loop-a-test.true),
+      elim c.if-have-eq0.branch [
+        then-have-eq0 w ↦ rw w.g-is (guessed-new _ _ _ _ _ _ l.invariant.1 (sym stands.ensures ∙ w.if-have-eq0.true) (c.requires.sized.solid c.args.k l.a c.if-own-k.false (omega (arith, c.width-a-end.ensures.1, c.loop-a-test.true))))
+      | else-have-eq0+else-not-alike w ↦ rw w.g-is (guessed-same _ _ _ _ _ _ l.invariant.1 (λ e. w.if-have-eq0.false (stands.ensures ∙ e)) (sym stands.ensures ∙ eqb-true _ _ (sym w.alike.ensures ∙ w.if-not-alike.false)))
+      ],
     )
 
 pub bounds-lasts-i : goal.bounds-lasts-i
