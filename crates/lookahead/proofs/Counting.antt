@@ -12,6 +12,8 @@ module _ (P : ℕ → Type 0) where
   count-once (suc m) (suc n) k (counted h c) (passed i d) = absurd (i h)
   count-once (suc m) n (suc k) (passed h c) (counted i d) = absurd (h i)
   count-once (suc m) n k (passed h c) (passed i d) = count-once m n k c d
+  count-once zero zero (suc k) _ x7 = elim x7 [ ]
+  count-once zero (suc n) k x5 _ = elim x5 [ ]
 
   pub count_none : (m : ℕ) → ((j : ℕ) → j < m → P j → ⊥) → CountBelow P m 0
   count_none zero f = none
@@ -27,6 +29,7 @@ module _ (P : ℕ → Type 0) where
       go : (k n : ℕ) → m < k → CountBelow P k n → CountBelow P m n
       go (suc k) (suc n) l (counted h c) = absurd (f k (omega arith) h)
       go (suc k) n l (passed h c) = elim (ℕ_discrete m k) [ yes e ↦ rw e c | no d ↦ go k n (omega arith) c ]
+      go zero n l _ = elim l [ ]
 
   -- up to any number that none of them reaches
   pub count-to : (k m n : ℕ) → ((j : ℕ) → k ≤ j → P j → ⊥) → ((j : ℕ) → m ≤ j → P j → ⊥) → CountBelow P k n → CountBelow P m n

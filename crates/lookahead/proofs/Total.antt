@@ -24,6 +24,7 @@ module _ (old new : List ℕ) (grows : (x : ℕ) → get_or old x 0 ≤ get_or n
   unfolding total
   total-more (y ∷ rows) x (Memᴰ.head e) h = subst (λ z. get_or old z 0 < get_or new z 0 → get_or old y 0 + total old rows < get_or new y 0 + total new rows) (sym e) (λ i. omega (arith, i, total-grows rows)) h
   total-more (y ∷ rows) x (Memᴰ.tail m) h = omega (arith, grows y, total-more rows x m h)
+  total-more [] x x4 h = elim x4 [ ]
 
 -- where no row serves more than m
 pub total-most : (served : List ℕ) (m : ℕ) → ((x : ℕ) → get_or served x 0 ≤ m) → (rows : List ℕ) → total served rows ≤ length rows * m

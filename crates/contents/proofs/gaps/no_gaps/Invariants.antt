@@ -11,13 +11,13 @@ use Rattle.contents.proofs.gaps.no_gaps.Given as goal
 abbrev pub invariant-loop-i : goal.invariant-loop-i
 invariant-loop-i l =
     let book = l.book in
-    let many = l.many in
+    let many = l.entries in
     let begin = l.begin in
     let i = l.i in
     (i ≤ many) × (begin ≡ begin_at book i) × (begin < 8589934592) × Followed book i
 
 abbrev pub decreases-loop-i : goal.decreases-loop-i
 decreases-loop-i l =
-    let many = l.many in
+    let many = l.entries in
     let i = l.i in
     many - i

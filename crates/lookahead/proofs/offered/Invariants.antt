@@ -1,0 +1,28 @@
+use borrow.Author.Rules.{rules}
+use mathlib.Core.Path.{sym, ◌∙◌}
+use Prim.Native.Nat.{◌≤◌, ◌-◌}
+use native.Mathlib.Omega.{arith}
+use borrow.Author.Tests.{not-true, not-false}
+use mathlib.Core.List.{[]}
+use Rattle.task.specs.Task.{posed}
+use Rattle.lookahead.proofs.Looking.{Agreeable, agreeable-start, agreeable-more, offered-shut, offered-relation, offered-clash, offered-all}
+use Rattle.lookahead.proofs.offered.Given as goal
+
+abbrev pub invariant-loop-a : goal.invariant-loop-a
+invariant-loop-a l =
+    let source = l.source in
+    let widths = l.widths in
+    let target = l.target in
+    let own = l.own in
+    let b = l.b in
+    let i = l.i in
+    let k = l.k in
+    let wide = l.wide in
+    let a = l.a in
+    (a ≤ wide) × Agreeable (posed source widths [] target own) b i k a
+
+abbrev pub decreases-loop-a : goal.decreases-loop-a
+decreases-loop-a l =
+    let wide = l.wide in
+    let a = l.a in
+    wide - a
