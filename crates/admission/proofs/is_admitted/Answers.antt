@@ -8,7 +8,7 @@ pub returns-in-Ahead : goal.returns-in-Ahead
 unfolding admitted
 returns-in-Ahead c =
     let lead-of = c.lead_of in
-    λ rule. leads c.in-Ahead.by-1 (record { sfits = c.known_told-1.given.0.1 }) ∙ ap (λ r. leads_by (lead_says r)) (sym c.in-Ahead.is) ∙ ap leads_by lead-of.ensures
+    λ rule. leads c.in-Ahead.by (search rules) ∙ ap (λ r. leads_by (lead_says r)) (sym c.in-Ahead.is) ∙ ap leads_by lead-of.ensures
 
 pub returns-in-Unfilled : goal.returns-in-Unfilled
 unfolding admitted

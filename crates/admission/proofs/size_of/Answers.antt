@@ -14,7 +14,7 @@ pub overflow_sub-result : goal.overflow_sub-result
 overflow_sub-result c = rw (to_z-of_z w32 _ c.ranges.lead, to_z-of_z w64 _ (down c).wide) (down c).minus
 
 pub overflow_cast-result-then-lead-lt0 : goal.overflow_cast-result-then-lead-lt0
-overflow_cast-result-then-lead-lt0 c = rw (to_z-of_z w32 _ c.ranges.lead, to_z-of_z w64 _ (down c).wide, to_z-of_z w64 _ (down c).minus) ((down c).plus, (down c).ranges)
+overflow_cast-result-then-lead-lt0 c = rw (to_z-of_z w32 _ c.ranges.lead, to_z-of_z w64 _ (down c).wide, to_z-of_z w64 _ (down c).minus) ((down c).plus, (down c).fits)
 
 pub overflow_cast-result-else-lead-lt0 : goal.overflow_cast-result-else-lead-lt0
 overflow_cast-result-else-lead-lt0 c = rw (to_z-of_z w32 _ c.ranges.lead) (above _ c.ranges.lead (tested _ false c.ranges.lead c.if-lead-lt0.false))

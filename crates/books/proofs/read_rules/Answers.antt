@@ -26,9 +26,8 @@ returns-in_default c =
     let book = c.args.book.now in
     let e = all-entries book _ _ c.requires.1 c.entries_of-all.ensures in
     let l = c.loop-i in
-    subst (Refusal book) (sym (c.of_entry.ensures ∙ ap (λ k. of_entry k l.i) c.number_of_lem.ensures))
-    (entry-refused book l.i (record { loads = c.requires.0; rule = l.invariant.0; within = omega arith; before = l.invariant.1 }) c.judge_entry-verdict.result
-    (λ s. not_first _ c.in-Sound.keys2 (ap (tag_of verdict.the_type) s)) c.judge_entry-verdict.ensures)
+    subst (Refusal book) (sym (c.of_entry.ensures ∙ ap (λ k. of_entry k l.i) c.number_of.ensures))
+    (entry-refused book l.i (record { loads = c.requires.0; rule = l.invariant.0; within = omega arith; before = l.invariant.1 }) c.judge_entry-verdict.result c.in_default.not-Sound c.judge_entry-verdict.ensures)
 
 pub loop-i-preserved : goal.loop-i-preserved
 loop-i-preserved c =

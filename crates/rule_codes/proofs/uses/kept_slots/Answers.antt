@@ -1,0 +1,6 @@
+use borrow.Author.Rules.{rules}
+use Rattle.rule_codes.proofs.UseLaws.{as-kept}
+use Rattle.rule_codes.proofs.uses.kept_slots.Goals as goal
+
+pub returns : goal.returns
+returns c = λ u. as-kept u (c.use_codes.ensures u)

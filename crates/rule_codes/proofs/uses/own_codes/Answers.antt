@@ -1,0 +1,6 @@
+use borrow.Author.Rules.{rules}
+use Rattle.rule_codes.proofs.UseLaws.{as_own}
+use Rattle.rule_codes.proofs.uses.own_codes.Goals as goal
+
+pub returns : goal.returns
+returns c = as_own _ (c.use_codes.ensures _)

@@ -1,0 +1,6 @@
+use borrow.Author.Rules.{rules}
+use Rattle.rule_codes.proofs.UseLaws.{as-slots}
+use Rattle.rule_codes.proofs.uses.own_slots.Goals as goal
+
+pub returns : goal.returns
+returns c = λ u. as-slots u (c.use_codes.ensures u)
