@@ -23,6 +23,8 @@ padded-in : (n : ℕ) (l : List ℕ) (w : ℕ) → length l ≤ n → w ∈ l �
 padded-in zero (x ∷ l) w h i = absurd (omega arith)
 padded-in (suc n) (x ∷ l) w h (Memᴰ.head e) = Memᴰ.head e
 padded-in (suc n) (x ∷ l) w h (Memᴰ.tail i) = Memᴰ.tail (padded-in n l w (omega arith) i)
+padded-in zero [] w h i = elim i [ ]
+padded-in (suc n) [] w h i = elim i [ ]
 
 pub above_tag : (t : Term ℕ) → variable_tag ≤ term_code t
 above_tag (var x) = omega arith
@@ -57,6 +59,7 @@ term_in (k ∷ gs) s g (Memᴰ.head e) t j =
     (padded-in 8 (map term_code k.terms) (term_code t) (rw length-map (s.terms k (Memᴰ.head refl)))
     (map-in term_code k.terms t (subst (λ h. t ∈ h.terms) e j))))
 term_in (k ∷ gs) s g (Memᴰ.tail i) t j = Memᴰ.append_right (subgoal_codes term_code k) (term_in gs (small-tail s) g i t j)
+term_in [] s g x3 t j = elim x3 [ ]
 
 pub terms-among : (gs : List (Subgoal (Term ℕ))) → SmallSubgoals gs → (w : ℕ) → TermAmong (codes_of term_code gs) w ↔ CodeOf gs w
 terms-among gs s w =

@@ -14,7 +14,8 @@ pub loop-p-init : goal.loop-p-init
 loop-p-init c = rw c.start-p.ensures (underway-start c.requires.fewest c.requires.k_le_question_most)
 
 pub one_row-next-requires : goal.one_row-next-requires
-one_row-next-requires c = let w = c.loop-p.invariant in let h = c.loop-p-test.true in (c.requires.feasibility_needs, (underway-within w c.requires.feasibility_needs.task h, (omega (arith, w.few), h)))
+one_row-next-requires c = let w = c.loop-p.invariant in let h = c.loop-p-test.true in
+    record { feasibility_needs = c.requires.feasibility_needs; row_lt_n = underway-within w c.requires.feasibility_needs.task h; k_lt_question_most = omega (arith, w.few); left_nonzero = h }
 
 pub overflow_add-row : goal.overflow_add-row
 overflow_add-row c = omega (arith, underway-within c.loop-p.invariant c.requires.feasibility_needs.task c.loop-p-test.true, c.requires.feasibility_needs.task.by.few)

@@ -18,7 +18,8 @@ pub returns-then-count-eq-MOST_ROWS : goal.returns-then-count-eq-MOST_ROWS
 returns-then-count-eq-MOST_ROWS c = state-over _ _ _ _ _ c.requires _ _ _ (rw c.loop-ok-test.true at c.loop-ok.invariant) c.if-count-eq-MOST_ROWS.true
 
 pub put_row-requires : goal.put_row-requires
-put_row-requires c = let s = (rw c.loop-ok-test.true at c.loop-ok.invariant) in (row-reach _ _ _ (at_row _ _ _ _ _ c.requires _ _ _ s), room _ _ _ _ _ c.requires _ _ _ s (fewer _ c.loop-ok.invariant.small c.if-count-eq-MOST_ROWS.false))
+put_row-requires c = let s = (rw c.loop-ok-test.true at c.loop-ok.invariant) in
+    record { in_reach = row-reach _ _ _ (at_row _ _ _ _ _ c.requires _ _ _ s); subgoal_size_in_bounds = room _ _ _ _ _ c.requires _ _ _ s (fewer _ c.loop-ok.invariant.small c.if-count-eq-MOST_ROWS.false) }
 
 pub overflow_add-count : goal.overflow_add-count
 overflow_add-count c = omega (arith, c.loop-ok.invariant.small)
