@@ -30,6 +30,7 @@ plain-slot : (ts : List (Term ℕ)) → DistinctVariables ts → (t : Term ℕ) 
 plain-slot (var x ∷ ts) d t (Memᴰ.head e) = rw e refl
 plain-slot (var x ∷ ts) d t (Memᴰ.tail i) = plain-slot ts d.1 t i
 plain-slot (con c ∷ ts) d t i = absurd d
+plain-slot [] d t i = elim i [ ]
 
 -- The slots after i of the head's terms.
 pub record SlotsSoFar (bytes : List ℕ) (i : ℕ) (slots : List ℕ) : Type 0 where

@@ -1,0 +1,23 @@
+use borrow.Author.Rules.{rules}
+use mathlib.Core.Path.{refl}
+use Prim.Native.Nat.{◌≤◌, ◌-◌}
+use native.Mathlib.Omega.{arith}
+use lib.ListN.{length}
+use Rattle.witness_check.specs.WayBack.Places.{BytePlaces}
+use Rattle.witness_check.proofs.WayBack.Storing.{bytes-start, bytes-more, bytes-end}
+use Rattle.witness_check.proofs.back.byte_places.Goals as goal
+
+pub loop-i-init : goal.loop-i-init
+loop-i-init c = (omega arith, bytes-start _ _ refl)
+
+pub bounds-ks-i : goal.bounds-ks-i
+bounds-ks-i c = omega (arith, c.requires, c.loop-i-test.true)
+
+pub loop-i-preserved : goal.loop-i-preserved
+loop-i-preserved c =
+    let t = c.loop-i-test.true in
+    let l = c.loop-i in
+    (omega arith, bytes-more _ _ l.ks _ (omega (arith, c.requires)) l.invariant.1 c.before-in-loop-i.ensures)
+
+pub returns : goal.returns
+returns c = bytes-end _ _ _ _ c.loop-i-test.false c.loop-i.invariant.1

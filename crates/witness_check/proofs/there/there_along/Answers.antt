@@ -1,0 +1,95 @@
+use mathlib.Core.Path.{sym}
+use native.Mathlib.Omega.{arith}
+use lib.Seq.{length-take-le}
+use Rattle.book_codes.proofs.Lent.{goals-few, source-room, widths-room}
+use Rattle.book_codes.proofs.ThereTask.{there-lent}
+use Rattle.witness_check.proofs.WayThere.Ways.{stood-sound, there-short, there-followed}
+use borrow.Author.Rules.{rules}
+use Rattle.witness_check.proofs.there.there_along.Goals as goal
+
+pub question_source-n-requires : goal.question_source-n-requires
+question_source-n-requires c =
+    let w = c.requires in
+    (stood-sound w, omega arith, omega arith)
+
+pub overflow_mul-n : goal.overflow_mul-n
+overflow_mul-n c =
+    let question-source = c.question_source-n in
+    let w = c.requires in
+    let v = w.is.targets.list.sound in omega (arith, goals-few _ v question-source.ensures)
+
+pub returns-then-witness-n : goal.returns-then-witness-n
+returns-then-witness-n c =
+    let if1 = c.if-witness-n in
+    let question-source = c.question_source-n in
+    record { exactly = λ b l o. there-short b l o question-source.ensures if1.true }
+
+pub question_bindings-b-requires : goal.question_bindings-b-requires
+question_bindings-b-requires c =
+    let w = c.requires in
+    stood-sound w
+
+pub pair_places-ks-requires : goal.pair_places-ks-requires
+pair_places-ks-requires c =
+    let if1 = c.if-witness-n in
+    let question-source = c.question_source-n in
+    let w = c.requires in
+    let v = w.is.targets.list.sound in let n = goals-few _ v question-source.ensures in (omega (arith, w.is.count, w.is.targets.list.few), n, omega (arith, if1.false))
+
+pub overflow_mul-source : goal.overflow_mul-source
+overflow_mul-source c =
+    let question-source = c.question_source-n in
+    let w = c.requires in
+    let v = w.is.targets.list.sound in omega (arith, goals-few _ v question-source.ensures)
+
+pub slice_bounds-source-end : goal.slice_bounds-source-end
+slice_bounds-source-end c =
+    let question-source = c.question_source-n in
+    let w = c.requires in
+    let v = w.is.targets.list.sound in source-room _ v question-source.ensures (omega arith)
+
+pub slice_bounds-follows-end : goal.slice_bounds-follows-end
+slice_bounds-follows-end c =
+    let question-source = c.question_source-n in
+    let w = c.requires in
+    let v = w.is.targets.list.sound in sym (length-take-le _ _ (source-room _ v question-source.ensures (omega arith)))
+
+pub slice_bounds-widths-end : goal.slice_bounds-widths-end
+slice_bounds-widths-end c =
+    let question-source = c.question_source-n in
+    let w = c.requires in
+    let v = w.is.targets.list.sound in widths-room _ v question-source.ensures (omega arith)
+
+pub slice_bounds-follows-end-2 : goal.slice_bounds-follows-end-2
+slice_bounds-follows-end-2 c =
+    let question-source = c.question_source-n in
+    let w = c.requires in
+    let v = w.is.targets.list.sound in sym (length-take-le _ _ (widths-room _ v question-source.ensures (omega arith)))
+
+pub slice_bounds-lasts-end : goal.slice_bounds-lasts-end
+slice_bounds-lasts-end c =
+    let question-source = c.question_source-n in
+    let w = c.requires in
+    let v = w.is.targets.list.sound in goals-few _ v question-source.ensures
+
+pub slice_bounds-follows-end-3 : goal.slice_bounds-follows-end-3
+slice_bounds-follows-end-3 c =
+    let question-source = c.question_source-n in
+    let w = c.requires in
+    let v = w.is.targets.list.sound in sym (length-take-le _ _ (goals-few _ v question-source.ensures))
+
+pub follows-requires : goal.follows-requires
+follows-requires c =
+    let question-bindings = c.question_bindings-b in
+    let question-source = c.question_source-n in
+    let w = c.requires in
+    there-lent _ _ w.is.targets question-source.ensures question-bindings.ensures
+
+pub returns : goal.returns
+returns c =
+    let follows = c.follows in
+    let pair-places = c.pair_places-ks in
+    let question-bindings = c.question_bindings-b in
+    let if1 = c.if-witness-n in
+    let question-source = c.question_source-n in
+    record { exactly = λ b l o. there-followed b l o question-source.ensures question-bindings.ensures follows.ensures pair-places.ensures if1.false }
