@@ -5,6 +5,7 @@ use mathlib.Core.Logic.{⊎_elim}
 use native.Mathlib.Omega.{arith}
 use Rattle.row_choice.proofs.AgainstSteps.{RowsCompared, against-few, in_order, part-inside, part_small, some_pair, passed-starts, passed-adds, passed-skips, passed-ends}
 use Rattle.row_choice.proofs.dominators.those_over.Goals as goal
+use Rattle.row_choice.proofs.dominators.those_over.Goals.{then-goes_into, else-goes_into}
 
 pub loop-d-init : goal.loop-d-init
 loop-d-init c = (omega arith, passed-starts)
@@ -59,7 +60,10 @@ loop-d-preserved c =
     let inv = c.loop-d.invariant in
     let h = c.loop-d-test.true in
     let told = c.goes_into.ensures in
-    ⊎_elim (λ w. (omega arith, passed-adds h inv.1 w.0.taken told (w.2 ∙ w.1.ensures))) (λ w. (omega arith, passed-skips h inv.1 w.0.left told w.1)) c.if-goes_into.branch
+    elim c.if-goes_into.branch [
+      then-goes_into w ↦ (omega arith, passed-adds h inv.1 w.if-goes_into.true told (w.set-is ∙ w.add-set.ensures))
+    | else-goes_into w ↦ (omega arith, passed-skips h inv.1 w.if-goes_into.false told w.set-is)
+    ]
 
 pub returns : goal.returns
 returns c = passed-ends c.loop-d.invariant.0 c.loop-d-test.false c.loop-d.invariant.1

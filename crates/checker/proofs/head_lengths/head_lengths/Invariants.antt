@@ -1,0 +1,22 @@
+use borrow.Author.Rules.{rules}
+use mathlib.Core.Path.{◌≡◌, refl}
+use lib.ListN.{length, length-set}
+use Prim.Native.Nat.{◌≤◌, ◌-◌}
+use native.Mathlib.Omega.{arith}
+use Rattle.checker.specs.Lengths.{HeadsTo}
+use Rattle.checker.proofs.LengthLaws.{count_room, heads-start, count-few, next-summary, heads-go, heads-end}
+use Rattle.checker.proofs.head_lengths.head_lengths.Given as goal
+
+abbrev pub invariant-loop-i : goal.invariant-loop-i
+invariant-loop-i l =
+    let book = l.book in
+    let n = l.n in
+    let table = l.table in
+    let i = l.i in
+    (i ≤ n) × (length table ≡ 65) × HeadsTo book i table
+
+abbrev pub decreases-loop-i : goal.decreases-loop-i
+decreases-loop-i l =
+    let n = l.n in
+    let i = l.i in
+    n - i

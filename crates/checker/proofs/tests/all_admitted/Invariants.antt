@@ -1,0 +1,20 @@
+use borrow.Author.Rules.{rules}
+use Prim.Native.Nat.{◌≤◌, ◌-◌}
+use native.Mathlib.Omega.{arith}
+use borrow.Author.Tests.{not-true, not-false}
+use Rattle.checker.proofs.AdmissionLaws.{AdmittedTo, admitted-start, admitted-go, admitted-not, admitted-all}
+use Rattle.checker.proofs.tests.all_admitted.Given as goal
+
+abbrev pub invariant-loop-i : goal.invariant-loop-i
+invariant-loop-i l =
+    let book = l.book in
+    let codes = l.codes in
+    let count = l.count in
+    let i = l.i in
+    (i ≤ count) × AdmittedTo book codes i
+
+abbrev pub decreases-loop-i : goal.decreases-loop-i
+decreases-loop-i l =
+    let count = l.count in
+    let i = l.i in
+    count - i
