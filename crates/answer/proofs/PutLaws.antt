@@ -141,7 +141,7 @@ module _ {book codes widths : List ℕ} {k : ℕ} (a w : List ℕ) (p : PutNeeds
 
     module _ {a₁ body : List ℕ} {o : ℕ} (part : body ≡ part_at book 1) (stored : a₁ ≡ sets a 0 (rewriting_bytes body codes widths k)) (long : o ≡ length (rewriting_bytes body codes widths k)) where
       answer-is : rewriting_bytes body codes widths k ≡ answer_bytes q result
-      answer_is = ap (rewriting_bytes body codes widths) (sym p.count) ∙ rewriting-means q body codes widths p.list p.rest p.more (body_is p part) (row-writes p) p.codes_are p.widths_are
+      answer-is = ap (rewriting_bytes body codes widths) (sym p.count) ∙ rewriting-means q body codes widths p.list p.rest p.more (body_is p part) (row-writes p) p.codes_are p.widths_are
 
       answer-holds : a₁ ≡ at_front (answer_bytes q result) a
       answer-holds = stored ∙ ap (sets a 0) answer-is ∙ stored-front (answer_bytes q result) a (omega (arith, answer-fits given, answer-room p.room))

@@ -63,7 +63,7 @@ module _ {book rewriting lengths : List ℕ} (g : RowsReadNeeds book rewriting l
     count-is = body.count question_most g.rule g.layout
 
     codes-are : codes ≡ at_front (codes_of term_code g.rule.body) empty
-    codes_are = body.codes question_most g.rule g.layout
+    codes-are = body.codes question_most g.rule g.layout
 
     pub codes-there : 9 * n ≤ length codes
     codes-there =
