@@ -40,6 +40,7 @@ gave-none {book} x = none x.refused
   where
     none : {answer witness : ℕ} → RewriterRefusal book answer witness (of_book 10) → GaveNone book
     none (ten room b s few never) = record { value = b; sound = s; never = never; differ = refused_all b s never }
+    none {answer = answer} {witness = witness} (read _ x5) = elim x5 [ ]
 
 -- "A summary left out has no say": two books of bytes whose values differ in summaries left out alone.
 module _ {book other : List ℕ} {b c : Book} (sound : SoundBook book b) (also : SoundBook other c)
