@@ -1,5 +1,6 @@
 // Refresh numbers: the lead of a stamp over the need, and which summaries are admitted.
 #![tactic(auto)]
+
 ghost use Rattle.std.specs.Prelude.{◌≡◌, ℕ, ◌≤◌, unsigned_abs};
 ghost use Rattle.spec.specs.Words.{Rule};
 ghost use Rattle.spec.specs.Refresh.{distance, lead, admitted};

@@ -1,19 +1,19 @@
 -- What is written for rows' codes is the rows' layout; with the question's head it is the rewriting's.
 use mathlib.Core.Path.{◌≡◌, refl, sym, ap, ap₂, ◌∙◌}
 use mathlib.Core.List.Memᴰ
-use mathlib.Core.List.{List, [], ◌∷◌, ◌++◌, map, append_assoc, append-nil}
-use Prim.Native.Nat.{ℕ, zero, suc, ◌+◌, ◌*◌, ◌-◌, ◌%◌, ◌<◌, ◌≤◌}
+use mathlib.Core.List.{List, [], ◌∷◌, ◌++◌, map, append_assoc}
+use Prim.Native.Nat.{ℕ, suc, ◌+◌, ◌*◌, ◌%◌, ◌<◌, ◌≤◌}
 use native.Mathlib.Omega.{arith}
-use lib.ListN.{length, get_or, take, drop, length-append, length-map}
-use lib.Seq.{get_or-drop, drop-drop, drop-append_seam, take-append_seam, take-append-le, length-take-le}
+use lib.ListN.{length, get_or, take, drop, length-map}
+use lib.Seq.{get_or-drop, drop-drop, drop-append_seam, take-append_seam, take-append-le}
 use Rattle.spec.specs.Words.{◌∈◌, Term, var, con, Subgoal, Rule}
-use Rattle.spec.specs.Summaries.{joined, rewriting}
+use Rattle.spec.specs.Summaries.{rewriting}
 use Rattle.spec.specs.Numbers.{little}
 use Rattle.spec.specs.RuleLayout.{term_bytes, terms_bytes, subgoal_bytes, subgoals_bytes, rule_bytes, TermWithin, TermsWithin}
 use Rattle.spec.proofs.Bytes.Sizes.{terms-size}
 use Rattle.codes.specs.Code.{variable_tag, constant_tag, term_code, padded, subgoal_codes, codes_of, widths_of}
 use Rattle.codes.proofs.Padded.{padded-length, padded-front}
-use Rattle.answer.specs.Bytes.{tag_of, code_bytes, codes_bytes, row_bytes, rows_bytes, rewriting_bytes}
+use Rattle.answer.specs.Bytes.{code_bytes, codes_bytes, row_bytes, rows_bytes, rewriting_bytes}
 use Rattle.answer.proofs.RuleStores.{tag-variable, tag-constant}
 
 term-means : (t : Term ℕ) → TermWithin t → code_bytes (term_code t) ≡ term_bytes t

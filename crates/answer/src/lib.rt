@@ -1,5 +1,6 @@
 // The chosen rows of a sound book as the bytes of answer and witness, in two lent areas.
 #![tactic(auto)]
+
 ghost use Rattle.std.specs.Prelude.{length};
 ghost use Rattle.spec.specs.Rewriting.{Accepted};
 ghost use Rattle.answer.specs.Steps.{PutNeeds, AnswerNeeds};

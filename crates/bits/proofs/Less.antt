@@ -3,7 +3,7 @@ use mathlib.Core.Path.{◌≡◌, refl, ap, sym, ◌∙◌}
 use mathlib.Core.Logic.{⊎_elim, ◌↔◌}
 use Prim.Native.Nat.{ℕ, zero, suc, ◌+◌, ◌*◌, ◌/◌, ◌%◌, ◌^◌, ◌-◌, ◌<◌, ◌≤◌}
 use native.Mathlib.Omega.{arith}
-use native.Mathlib.Decide.{dec_lt, ℕ_discrete}
+use native.Mathlib.Decide.{dec_lt}
 use native.Mathlib.Nat.{two-pow-succ, div-eq_of_lt}
 use lib.Bits.{bit_xor, differ, xor_step, xor_shr}
 use lib.Pow.{shl_exact, pow_mono, ones_split, high, ones_lt}

@@ -1,5 +1,6 @@
 // Sets of the numbers 0 to 63 in one word, a bit for each.
 #![tactic(auto)]
+
 ghost use Rattle.std.specs.Prelude.{◌≡◌, ◌<◌, ◌≤◌};
 ghost use Rattle.std.specs.Int.Bits.{bit_or};
 ghost use Rattle.bits.specs.Sets.{with, without, first, has, below32, Within, Meets};

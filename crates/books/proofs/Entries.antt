@@ -1,20 +1,18 @@
 -- From the verdict on an entry's part to the refusal table, and from all entries to the whole book.
-use mathlib.Core.Path.{◌≡◌, refl, sym, ap, ◌∙◌, subst}
+use mathlib.Core.Path.{◌≡◌, refl, ap, ◌∙◌, subst}
 use mathlib.Core.Logic.{◌⊎◌, inl, inr, ⊎_elim}
-use mathlib.Core.Bool.{Bool, true}
 use mathlib.Core.List.{List}
 use Prim.Native.Nat.{ℕ, zero, suc, ◌+◌, ◌-◌, ◌<◌, ◌≤◌}
 use native.Mathlib.Omega.{arith}
 use native.Mathlib.Nat.{eq-or-lt_of_le}
-use lib.ListN.{length, take, drop}
-use lib.Dec.{ltb}
+use lib.ListN.{take, drop}
 use borrow.Author.Tests.{ltb-true, lt-ltb}
 use Rattle.spec.specs.Words.{Rule, Safe}
 use Rattle.spec.specs.Book.{Book}
 use Rattle.spec.specs.Numbers.{Bytes}
 use Rattle.spec.specs.BookLayout.{entries, SoundBook}
 use Rattle.spec.specs.Contents.{count, entries_in, offset_at, length_at, part_at}
-use Rattle.spec.specs.Refusals.{most_at, of_entry, SoundEntry, Reached, Refusal, six, seven, eight, Loads, Passes, Reads}
+use Rattle.spec.specs.Refusals.{most_at, of_entry, SoundEntry, Reached, Refusal, six, seven, eight, Loads, Reads}
 use Rattle.spec.proofs.Bytes.Within.{part-lent}
 use Rattle.spec.proofs.Bytes.BookUnique.{reads-unique, sound-exactly}
 use Rattle.rules.specs.declared.subgoals.Fault.{Fault}

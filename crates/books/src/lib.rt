@@ -1,5 +1,6 @@
 // A whole book of bytes: sound, or refused with 2 to 8.
 #![tactic(auto)]
+
 ghost use Rattle.std.specs.Prelude.{◌≡◌, ◌<◌};
 ghost use Rattle.spec.specs.Contents.{count, entries_in, part_at};
 ghost use Rattle.spec.specs.Refusals.{Loads, most_at};

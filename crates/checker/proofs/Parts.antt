@@ -1,9 +1,9 @@
 -- The witness cut in two behind the way there.
-use mathlib.Core.Path.{◌≡◌, refl, sym, ap, ◌∙◌, subst}
+use mathlib.Core.Path.{◌≡◌, sym, ap, ◌∙◌, subst}
 use mathlib.Core.Bool.{Bool, true, false, false≢true}
 use mathlib.Core.Logic.{◌↔◌}
-use mathlib.Core.List.{List, ◌++◌}
-use Prim.Native.Nat.{ℕ, ◌+◌, ◌*◌, ◌-◌, ◌<◌, ◌≤◌}
+use mathlib.Core.List.{List}
+use Prim.Native.Nat.{ℕ, ◌*◌, ◌-◌, ◌<◌, ◌≤◌}
 use native.Mathlib.Omega.{arith}
 use lib.ListN.{length, take, drop, length-append, length-drop, take-append-drop}
 use lib.Seq.{take_at, drop_at, take_all}
@@ -11,7 +11,7 @@ use Rattle.spec.specs.Words.{Term, Subgoal}
 use Rattle.spec.specs.Summaries.{rewriting}
 use Rattle.spec.specs.Answer.{There, Back}
 use Rattle.spec.specs.Book.{Book, admitted_of}
-use Rattle.spec.specs.BookLayout.{SoundBook, question_most}
+use Rattle.spec.specs.BookLayout.{question_most}
 use Rattle.spec.specs.Contents.{part_at}
 use Rattle.spec.proofs.Bytes.BookPasses.{question-reads}
 use Rattle.outcomes.proofs.Rooms.{there-long}

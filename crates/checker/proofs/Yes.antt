@@ -1,6 +1,6 @@
 -- What is proposed and confirmed is true, and what is true is.
-use mathlib.Core.Path.{◌≡◌, refl, sym, ap, ◌∙◌, subst}
-use mathlib.Core.Bool.{Bool, true, false}
+use mathlib.Core.Path.{◌≡◌, sym, ap, ◌∙◌, subst}
+use mathlib.Core.Bool.{Bool, false}
 use mathlib.Core.List.{List}
 use Prim.Native.Nat.{ℕ, ◌*◌, ◌≤◌}
 use native.Mathlib.Omega.{arith}
@@ -9,7 +9,6 @@ use Rattle.spec.specs.Words.{Rule}
 use Rattle.spec.specs.Summaries.{or_empty, rewriting}
 use Rattle.spec.specs.Answer.{There, Back}
 use Rattle.spec.specs.Book.{Book, admitted_of}
-use Rattle.spec.specs.BookLayout.{SoundBook, question_most}
 use Rattle.spec.specs.declared.Reason.{Reason}
 use Rattle.spec.specs.Reading.{ReadingSays}
 use Rattle.spec.specs.declared.Reading.{Reading}

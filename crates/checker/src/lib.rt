@@ -1,5 +1,6 @@
 // The checker: a book, a rewriting and a witness, each as bytes. It writes nothing, and searches for nothing.
 #![tactic(auto)]
+
 ghost use Rattle.book_codes.specs.Question.{SomeSound};
 ghost use Rattle.book_codes.specs.FewRows.{FewRows};
 ghost use Rattle.spec.specs.Truth.{Checks};

@@ -1,5 +1,6 @@
 // Terms and subgoals as codes: their sizes and tags. The definitions stand in specs/, with the laws that tie them to rules in proofs/.
 #![tactic(auto)]
+
 use spec::{MOST_ROWS, QUESTION_GOALS, SUMMARY_GOALS, VARIABLES};
 
 // A subgoal is so many codes: its relation, and a term for each place of the widest one.

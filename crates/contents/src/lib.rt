@@ -1,5 +1,6 @@
 // The contents of a book: loaded, or refused with 2 to 5; and each entry's own part of the book.
 #![tactic(auto)]
+
 ghost use Rattle.spec.specs.Loading.{LoadSays};
 ghost use Rattle.spec.specs.EntryPart.{EntryPart};
 

@@ -3,10 +3,10 @@ use mathlib.Core.Path.{◌≡◌, refl, sym, ap, ap₂, subst, ◌∙◌}
 use mathlib.Core.Bool.{Bool, true, false}
 use mathlib.Core.Logic.{◌⊎◌, inl, inr}
 use mathlib.Core.List.Memᴰ
-use mathlib.Core.List.{List, [], ◌∷◌, ◌++◌, map}
+use mathlib.Core.List.{List, [], ◌∷◌, ◌++◌}
 use Prim.Native.Nat.{ℕ, ◌-◌, ◌<◌}
 use native.Mathlib.Omega.{arith}
-use lib.ListN.{length, take, drop, replicate, take-append-drop}
+use lib.ListN.{length, replicate, take-append-drop}
 use Rattle.spec.specs.Words.{◌∈◌, Rule}
 use Rattle.spec.specs.Summaries.{Summaries}
 use Rattle.spec.specs.Order.{RowBefore}
@@ -18,7 +18,7 @@ use Rattle.spec.proofs.Decided.Rows.{RowList}
 use Rattle.choice_theory.specs.Numbered.{nothing, row_at, rows_at}
 use Rattle.task.specs.Task.{Task}
 use Rattle.first_shortest.specs.Posed.{Posed}
-use Rattle.first_shortest.specs.Chosen.{numbers_of, Found, NotFound, ChosenBy, ChoiceSays}
+use Rattle.first_shortest.specs.Chosen.{numbers_of, Found, ChosenBy, ChoiceSays}
 use Rattle.first_shortest.specs.declared.Chosen.{Chosen}
 
 -- rows that ascend are told by their numbers

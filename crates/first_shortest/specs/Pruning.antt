@@ -1,5 +1,5 @@
 -- Rows that others dominate.
-use Rattle.std.specs.Prelude.{◌≡◌, Bool, true, false, cond, ◌↔◌, List, ℕ, ◌<◌, length, get_or}
+use Rattle.std.specs.Prelude.{◌≡◌, Bool, true, cond, ◌↔◌, List, ℕ, ◌<◌, length, get_or}
 use Rattle.std.specs.Int.Bits.{bit_or}
 use Rattle.spec.specs.Words.{Rule}
 use Rattle.spec.specs.Summaries.{Summaries, in_place}

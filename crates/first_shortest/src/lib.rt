@@ -1,5 +1,6 @@
 // The choice of rows: how few can do, then a pass over the rows in their order that takes each row with which the later ones can still do.
 #![tactic(auto)]
+
 ghost use Rattle.std.specs.Prelude.{◌≡◌, ◌+◌, ◌<◌, ◌≤◌};
 ghost use Rattle.spec.specs.BookLayout.{question_most};
 ghost use Rattle.spec.specs.Table.{most_rows};

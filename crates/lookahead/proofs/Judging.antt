@@ -1,15 +1,14 @@
 -- Reasons: cut where a use starts, joined, and when they settle a search; and what entering a row makes.
 use mathlib.Core.Path.{◌≡◌, refl, sym, ap, ◌∙◌}
 use mathlib.Core.Logic.{◌⊎◌, inl, inr, ◌↔◌}
-use mathlib.Core.Bool.{Bool, true, false, not, cond, ◌||◌, true≢false, false≢true}
-use Prim.Native.Nat.{ℕ, ◌-◌, ◌<◌, ◌≤◌}
+use mathlib.Core.Bool.{Bool, true, false, not, ◌||◌, true≢false, false≢true}
+use Prim.Native.Nat.{ℕ, ◌-◌}
 use native.Mathlib.Omega.{arith}
-use lib.Dec.{eqb}
 use lib.Bits.{bit_or}
 use borrow.Author.Tests.{eq-eqb, ne_eqb, not-true}
 use Rattle.bits.specs.Sets.{Has, has, with, below32, Meets}
-use Rattle.bits.proofs.Laws.{has-true, true-has, low-has}
-use Rattle.lookahead.specs.Taking.{Enters, left_after}
+use Rattle.bits.proofs.Laws.{has-true, true-has}
+use Rattle.lookahead.specs.Taking.{Enters}
 use Rattle.lookahead.specs.Steps.{shorting, joining, seeing, Hopeless, Settled, rows_of, entry_of, Entering}
 use Rattle.lookahead.specs.declared.reasons.Reasons.{Reasons}
 use Rattle.lookahead.specs.declared.reasons.Rows.{Rows}

@@ -16,7 +16,7 @@ use Rattle.bits.proofs.Laws.{has-true, true-has, has-none, with-new, with-old, w
 use Rattle.task.specs.Task.{Task, targets, source_relation, target_relation, source_term, target_term, width_of, row_of}
 use Rattle.task.specs.Terms.{stood, noting}
 use Rattle.task.proofs.Slots.{noting-new, noting-old, noting-cases}
-use Rattle.lookahead.specs.Outlook.{SameUse, UseEnd, MayBecome, Clashes, SuitsTarget, HasTarget, Offered, Offers, SlotOf, SlotsOf, member_of, Steady, Wanting, Most}
+use Rattle.lookahead.specs.Outlook.{UseEnd, MayBecome, Clashes, SuitsTarget, HasTarget, Offered, Offers, SlotsOf, member_of, Wanting, Most}
 use Rattle.lookahead.specs.declared.Wants.{Wants}
 
 -- no use ends from at up to i

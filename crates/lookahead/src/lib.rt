@@ -1,6 +1,7 @@
 // Before a subgoal is placed: whether that is seen to be in vain.
 // Each subgoal of the same use wants a row with a target that it may still become. Where no row has one, or where more rows are wanted than are left, no target need be tried.
 #![tactic(auto)]
+
 ghost use Rattle.std.specs.Prelude.{◌≡◌, true, ◌↔◌, [], ◌*◌, ◌<◌, ◌≤◌, max, length};
 ghost use Rattle.spec.specs.Table.{most_rows};
 ghost use Rattle.codes.specs.Code.{uses_goals};

@@ -1,5 +1,6 @@
 // "Numbers are little-endian": those of two and of four bytes, at a place of a slice.
 #![tactic(auto)]
+
 ghost use Rattle.std.specs.Prelude.{◌≡◌, ◌+◌, ◌≤◌, ◌<◌, length};
 ghost use Rattle.spec.specs.Numbers.{number_at};
 

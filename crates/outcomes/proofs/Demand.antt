@@ -1,13 +1,12 @@
 -- Demand 3 of what a book of bytes is given, and what a summary left out has no say in.
-use mathlib.Core.Path.{◌≡◌, refl, sym, ap, ◌∙◌, subst}
+use mathlib.Core.Path.{◌≡◌, sym, ap, ◌∙◌, subst}
 use mathlib.Core.Logic.{◌↔◌}
 use mathlib.Core.List.{List, map}
 use Prim.Native.Nat.{ℕ, ◌<◌, ◌≤◌}
 use lib.ListN.{length}
-use Rattle.spec.specs.Words.{Term, Subgoal, Rule, Facts, Listed, AllFit, Yields, itself}
+use Rattle.spec.specs.Words.{Subgoal, Rule, Facts, Listed, AllFit, Yields, itself}
 use Rattle.spec.specs.Summaries.{Summaries, HoldJust, rewriting}
 use Rattle.spec.specs.Book.{Book, admitted_of}
-use Rattle.spec.specs.Result.{Answered, Right}
 use Rattle.spec.specs.Demand.{OverAdmitted, Demand3, DiffersSomewhere}
 use Rattle.spec.specs.LeftOut.{SameButLeftOut}
 use Rattle.spec.specs.BookLayout.{SoundBook}

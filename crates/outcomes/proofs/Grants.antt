@@ -1,9 +1,7 @@
 -- What a sound book grants the theory.
-use mathlib.Core.List.{List}
-use Prim.Native.Nat.{ℕ}
-use Rattle.spec.specs.Book.{Book, Summary, admitted_of}
-use Rattle.spec.specs.BookLayout.{SoundValue, SoundBook}
-use Rattle.spec.specs.Demand.{Granted, GrantedSummary}
+use Rattle.spec.specs.Book.{Book, admitted_of}
+use Rattle.spec.specs.BookLayout.{SoundValue}
+use Rattle.spec.specs.Demand.{Granted}
 use Rattle.spec.proofs.Decided.Sound.{AllSafe}
 use Rattle.containment.proofs.Sound.{sound-safe}
 

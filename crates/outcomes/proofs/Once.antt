@@ -1,13 +1,12 @@
 -- A book is given one answer, or refused with one number at one place, never both.
-use mathlib.Core.Path.{◌≡◌, refl, sym, ap, ◌∙◌, subst}
-use mathlib.Core.Logic.{◌⊎◌, inl, inr}
+use mathlib.Core.Path.{◌≡◌, refl, subst}
 use mathlib.Core.List.{List}
 use Prim.Native.Nat.{ℕ}
 use Rattle.spec.specs.Book.{Book, admitted_of}
-use Rattle.spec.specs.Result.{Answered, Right}
+use Rattle.spec.specs.Result.{Right}
 use Rattle.spec.specs.BookLayout.{SoundBook}
 use Rattle.spec.specs.declared.Reason.{Reason}
-use Rattle.spec.specs.Table.{Fault1, Fault9, Fault10, RewriterRefusal, one, read, nine, ten}
+use Rattle.spec.specs.Table.{Fault9, Fault10, RewriterRefusal, one, read, nine, ten}
 use Rattle.spec.specs.Given.{Given}
 use Rattle.spec.proofs.Decided.Answered.{right_unique}
 use Rattle.spec.proofs.Bytes.BookUnique.{book-unique}

@@ -4,11 +4,10 @@ use mathlib.Core.List.{List, [], ◌∷◌}
 use Prim.Native.Nat.{ℕ, ◌≤◌}
 use native.Mathlib.Omega.{arith}
 use lib.ListN.{length, length-map}
-use Rattle.spec.specs.Words.{◌∈◌, Term, con, Subgoal, Rule, becomes, each}
-use Rattle.spec.specs.Summaries.{Summaries, uses, rewriting, Over}
+use Rattle.spec.specs.Words.{Term, con, Subgoal, Rule, becomes, each}
+use Rattle.spec.specs.Summaries.{Summaries, rewriting}
 use Rattle.spec.specs.Answer.{AtPairs, There}
 use Rattle.spec.specs.Book.{Book, admitted_of}
-use Rattle.spec.specs.RuleLayout.{TermsWithin}
 use Rattle.spec.specs.Given.{answer_bytes, witness_bytes, Given}
 use Rattle.spec.specs.Truth.{RewritingRule, Truth}
 use Rattle.outcomes.proofs.Demand.{given-few}

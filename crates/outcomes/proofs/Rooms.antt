@@ -2,20 +2,17 @@
 use mathlib.Core.Path.{◌≡◌, refl, sym, ap, ◌∙◌, subst}
 use mathlib.Core.Option.{some}
 use mathlib.Core.List.Memᴰ
-use mathlib.Core.List.{List, [], ◌∷◌, ◌++◌, map}
-use Prim.Native.Nat.{ℕ, zero, suc, ◌+◌, ◌*◌, ◌<◌, ◌≤◌}
+use mathlib.Core.List.{List, [], ◌∷◌}
+use Prim.Native.Nat.{ℕ, suc, ◌*◌, ◌≤◌}
 use native.Mathlib.Omega.{arith}
 use lib.ListN.{length, length-map, length-append}
 use Rattle.spec.specs.Words.{◌∈◌, Term, con, Subgoal, Rule, becomes, each}
-use Rattle.spec.specs.Summaries.{place, Summaries, summary, or_empty, definition, Own, in_use, in_place, uses, joined, expansion, rewriting}
-use Rattle.spec.specs.Answer.{Sends, AtPlaces, AtPairs, There, Back}
-use Rattle.spec.specs.Book.{Book, admitted_of}
-use Rattle.spec.specs.RuleLayout.{rule_bytes}
-use Rattle.spec.specs.BookLayout.{SoundValue}
+use Rattle.spec.specs.Summaries.{Summaries, summary, or_empty, definition, in_use, in_place, uses, joined, expansion, rewriting}
+use Rattle.spec.specs.Answer.{AtPlaces, AtPairs, There, Back}
+use Rattle.spec.specs.Book.{admitted_of}
 use Rattle.spec.specs.Table.{answer_room, witness_room}
 use Rattle.spec.specs.Given.{Given, answer_bytes, witness_bytes}
 use Rattle.spec.proofs.Bytes.Sizes.{rule-most}
-use Rattle.spec.proofs.Lists.Joined.{joined-most}
 use Rattle.containment.proofs.Sound.{admitted-from}
 use Rattle.outcomes.proofs.Demand.{given-few}
 

@@ -1,6 +1,5 @@
 -- "For an equivalent rewriting of 1 to 12 subgoals over admitted summaries, within the layout, some witness passes; for others none does."
-use mathlib.Core.Path.{◌≡◌, refl, sym, ◌∙◌, subst}
-use mathlib.Core.Logic.{◌↔◌}
+use mathlib.Core.Path.{refl}
 use mathlib.Core.List.{List, ◌++◌}
 use Prim.Native.Nat.{ℕ}
 use Rattle.spec.specs.Words.{Rule}
@@ -10,8 +9,6 @@ use Rattle.spec.specs.RuleLayout.{rule_bytes}
 use Rattle.spec.specs.BookLayout.{SoundBook}
 use Rattle.spec.specs.Truth.{RewritingRule, Truth}
 use Rattle.spec.proofs.Decided.WitnessExists.{maps-there, maps-back}
-use Rattle.spec.proofs.Bytes.BookUnique.{book-unique}
-use Rattle.outcomes.proofs.Same.{true-equivalent}
 
 module _ {book : List ℕ} (b : Book) (sound : SoundBook book b) (r : Rule ℕ) (is : RewritingRule b r) where
   pub witness-for : Equivalent (admitted_of b) b.question r → (witness : List ℕ) × Truth book (rule_bytes r) witness

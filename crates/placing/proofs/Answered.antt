@@ -1,17 +1,16 @@
 -- The search's answers: found below, given up, or nothing left to place.
 use mathlib.Core.Bool.{Bool, true, false, true≢false, false≢true}
 use mathlib.Core.Path.{◌≡◌, refl, ap, sym, ◌∙◌}
-use mathlib.Core.Logic.{◌⊎◌, inl, inr, ◌↔◌}
+use mathlib.Core.Logic.{◌⊎◌, inl, inr}
 use mathlib.Core.List.{List, [], ◌∷◌}
 use Prim.Native.Nat.{ℕ, zero, suc, ◌+◌, ◌-◌, ◌<◌, ◌≤◌}
 use native.Mathlib.Omega.{arith}
 use native.Mathlib.Decide.{ℕ_discrete, dec_lt}
 use native.Mathlib.Numerals.{add-one}
-use lib.ListN.{length, get_or, set, replicate}
+use lib.ListN.{get_or, set}
 use Rattle.spec.specs.Order.{ListBefore, First}
 use Rattle.bits.specs.Sets.{Has, with}
 use Rattle.task.specs.Task.{Task, goals, targets, target_relation, source_relation, width_of, last_of, row_of, Completes, done}
-use Rattle.task.specs.Completion.{Completion}
 use Rattle.task.specs.Terms.{Opened}
 use Rattle.task.proofs.Guess.{Guess}
 use Rattle.task.proofs.Onward.{step, after, onward}
@@ -31,7 +30,7 @@ use Rattle.placing.specs.declared.Placed.{Placed}
 use Rattle.placing.proofs.Open.{open-with, open-tail, affords-open}
 use Rattle.placing.proofs.Laid.{laid_none, laid-put}
 use Rattle.placing.proofs.ReasonsCarried.{carry}
-use Rattle.placing.proofs.Refuted.{WayOn, Refuted}
+use Rattle.placing.proofs.Refuted.{Refuted}
 
 module _ (p : Task) (at : ℕ) (b : List ℕ) (rows : Rows) (more : at < goals p) where
   -- every target is passed over

@@ -1,13 +1,12 @@
 -- Why targets are passed over: no values that agree with the bindings on the reasons have a way on over them.
-use mathlib.Core.Bool.{Bool, true, false, ◌||◌, true≢false, or-true}
+use mathlib.Core.Bool.{true, false, ◌||◌, true≢false, or-true}
 use mathlib.Core.Path.{◌≡◌, refl, ap, sym, ◌∙◌}
-use mathlib.Core.Logic.{◌⊎◌, inl, inr}
 use mathlib.Core.List.Memᴰ
 use mathlib.Core.List.{List, ◌∷◌}
 use Prim.Native.Nat.{ℕ, suc, ◌+◌, ◌-◌, ◌<◌}
 use native.Mathlib.Omega.{arith}
 use native.Mathlib.Decide.{dec_lt}
-use lib.ListN.{length, get_or, get_or-eq_default}
+use lib.ListN.{get_or, get_or-eq_default}
 use Rattle.bits.specs.Sets.{Has}
 use Rattle.bits.proofs.Laws.{or_left, or_right}
 use Rattle.task.specs.Task.{Task, goals, target_relation, source_relation, source_term, target_term, width_of, last_of, row_of, Agrees, Linked, Completes}

@@ -7,7 +7,6 @@ use Rattle.spec.proofs.Lists.Strict.{first-unique}
 use Rattle.spec.proofs.Decided.Orders.{bytes_order}
 use Rattle.bits.proofs.Laws.{exactly-once}
 use Rattle.task.specs.Task.{Task}
-use Rattle.task.specs.Mapped.{Feasible}
 use Rattle.placing.specs.FirstPlaces.{laid, FirstOf, FirstPlaces, Enough}
 use Rattle.placing.specs.SearchAnswer.{PlacesFrom}
 use Rattle.placing.specs.declared.Places.{Places}

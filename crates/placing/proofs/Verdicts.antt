@@ -1,23 +1,20 @@
 -- From the search's answer to what is promised above it.
 use mathlib.Core.Bool.{Bool, true, false, true≢false, false≢true}
-use mathlib.Core.Path.{◌≡◌, refl, sym, ◌∙◌}
-use mathlib.Core.Logic.{◌⊎◌, inl, inr}
-use mathlib.Core.List.{List, []}
-use Prim.Native.Nat.{ℕ, ◌<◌, ◌≤◌}
+use mathlib.Core.Path.{◌≡◌, refl}
+use mathlib.Core.List.{List}
+use Prim.Native.Nat.{ℕ}
 use native.Mathlib.Omega.{arith}
 use lib.ListN.{replicate}
-use Rattle.spec.specs.Order.{ListBefore, First}
-use Rattle.bits.specs.Sets.{Has}
+use Rattle.spec.specs.Order.{First}
 use Rattle.bits.proofs.Laws.{all-has}
 use Rattle.task.specs.Task.{Task, Sized, row_of}
-use Rattle.task.specs.Mapped.{Mapped, Feasible}
-use Rattle.task.specs.Completion.{Completion}
+use Rattle.task.specs.Mapped.{Feasible}
 use Rattle.task.proofs.Chain.{completion-mapped, mapped-completion}
 use Rattle.lookahead.specs.Taking.{Affords}
 use Rattle.lookahead.specs.Steps.{rows_of}
 use Rattle.lookahead.specs.declared.reasons.Rows.{Rows}
 use Rattle.lookahead.proofs.Taken.{rows-affords, affords-rows}
-use Rattle.placing.specs.FirstPlaces.{laid, FirstPlaces, Enough}
+use Rattle.placing.specs.FirstPlaces.{FirstPlaces, Enough}
 use Rattle.placing.specs.SearchAnswer.{Afforded, SearchSays, PlacesFrom}
 use Rattle.placing.specs.declared.Placed.{Placed}
 use Rattle.placing.specs.declared.Places.{Places}

@@ -1,5 +1,5 @@
 -- The answers on a task: the places of the first mapping, and whether some lie within few rows.
-use Rattle.std.specs.Prelude.{Bool, true, false, ◌≡◌, ◌↔◌, List, [], ◌++◌, ℕ, ◌+◌, ◌-◌, ◌<◌, length, replicate}
+use Rattle.std.specs.Prelude.{Bool, true, false, ◌≡◌, ◌↔◌, List, [], ◌++◌, ℕ, ◌-◌, ◌<◌, length, replicate}
 use Rattle.spec.specs.Order.{ListBefore, First}
 use Rattle.codes.specs.Code.{uses_goals}
 use Rattle.task.specs.Task.{Task}

@@ -1,6 +1,7 @@
 // Source subgoals are placed on targets one after the other, each guess on a copy of the bindings.
 // A failure tells its reasons. Where they name no slot that this guess bound, no other target can help.
 #![tactic(auto)]
+
 ghost use Rattle.std.specs.Prelude.{◌≡◌, ◌<◌, ◌≤◌, length};
 ghost use Rattle.codes.specs.Code.{rows_goals, most_slots, uses_goals};
 ghost use Rattle.task.specs.Task.{posed, Sized};

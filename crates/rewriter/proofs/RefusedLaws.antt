@@ -1,29 +1,26 @@
 -- Each refusal, and what stays.
 use mathlib.Core.Path.{◌≡◌, refl, sym, subst}
 use mathlib.Core.Logic.{inl, inr, ⊎_elim}
-use mathlib.Core.Bool.{Bool, true, false}
+use mathlib.Core.Bool.{true, false}
 use mathlib.Core.List.{List}
 use Prim.Native.Nat.{ℕ, ◌*◌, ◌<◌, ◌≤◌}
 use native.Mathlib.Omega.{arith}
 use lib.ListN.{length, drop}
-use Rattle.spec.specs.Book.{Book, admitted_of}
-use Rattle.spec.specs.BookLayout.{SoundBook}
+use Rattle.spec.specs.Book.{admitted_of}
 use Rattle.spec.specs.declared.Reason.{Reason}
 use Rattle.spec.specs.Refusals.{of_book, Refusal}
 use Rattle.spec.specs.Reading.{ReadingSays}
 use Rattle.spec.specs.declared.Reading.{Reading}
 use Rattle.spec.specs.declared.Reading.TheVariants.{Sound, Refused}
-use Rattle.spec.specs.Table.{Fault1, Fault9, Fault10, RewriterRefusal, one, read, nine, ten, answer_room, witness_room, most_rows}
+use Rattle.spec.specs.Table.{Fault1, RewriterRefusal, one, read, nine, ten, answer_room, witness_room}
 use Rattle.spec.specs.Rewriting.{TurnedDown}
-use Rattle.spec.proofs.Decided.Rows.{all_rows}
 use Rattle.outcomes.proofs.Grants.{value-safe}
 use Rattle.outcomes.proofs.Total.{fault-9}
 use Rattle.row_list.specs.Listing.{ListNeeds, AllStand, RowsOver, ListedSays, ListSays}
 use Rattle.row_list.specs.declared.RowsListed.{RowsListed}
 use Rattle.row_list.specs.declared.RowsListed.TheVariants.{All, Over}
-use Rattle.first_shortest.specs.Chosen.{ChosenBy, Found, NotFound}
 use Rattle.first_shortest.specs.declared.Chosen.{Chosen}
-use Rattle.row_choice.specs.Asked.{ChoiceNeedsOf, ChoiceNeeds, RowChoiceSays}
+use Rattle.row_choice.specs.Asked.{RowChoiceSays}
 use Rattle.answer.specs.Steps.{AnswerNeeds}
 use Rattle.answer.proofs.ChosenLaws.{few-rows}
 use Rattle.rewriter.specs.Steps.{SoundNeeds, ListedNeeds}

@@ -1,5 +1,6 @@
 // A book of bytes rewritten: the answer and its witness in two lent areas, or the refusal.
 #![tactic(auto)]
+
 ghost use Rattle.std.specs.Prelude.{length};
 ghost use Rattle.spec.specs.Rewriting.{Rewriting};
 ghost use Rattle.rewriter.specs.Steps.{SoundNeeds, ListedNeeds};

@@ -3,15 +3,14 @@ use mathlib.Core.Path.{◌≡◌, sym, ap, ap₂, ◌∙◌, subst}
 use mathlib.Core.Bool.{Bool, true, false}
 use mathlib.Core.Logic.{◌↔◌, ⊎_elim}
 use mathlib.Core.List.{List, [], ◌++◌, append-nil}
-use Prim.Native.Nat.{ℕ, suc, ◌+◌, ◌*◌, ◌-◌, ◌<◌, ◌≤◌}
+use Prim.Native.Nat.{ℕ, ◌+◌, ◌*◌, ◌-◌, ◌<◌, ◌≤◌}
 use native.Mathlib.Omega.{arith}
 use native.Mathlib.Decide.{dec_lt}
 use lib.ListN.{length, get_or, take, drop, take-append-drop}
 use lib.Seq.{drop-nil}
-use Rattle.spec.specs.Summaries.{Summaries, in_place, uses, joined}
+use Rattle.spec.specs.Summaries.{Summaries, uses, joined}
 use Rattle.spec.specs.Given.{at_front}
 use Rattle.spec.proofs.Decided.Rows.{RowList}
-use Rattle.choice_theory.specs.Numbered.{row_at}
 use Rattle.choice_theory.specs.Dominates.{Dominates}
 use Rattle.codes.specs.Code.{own_code, codes_of}
 use Rattle.codes.proofs.Padded.{codes-length}

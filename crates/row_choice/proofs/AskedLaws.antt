@@ -1,8 +1,8 @@
 -- What is asked of all summary rows: they are rows whose uses can be given, of a sound book.
-use mathlib.Core.Path.{◌≡◌, sym, ap, ◌∙◌}
+use mathlib.Core.Path.{sym, ap, ◌∙◌}
 use mathlib.Core.List.{List}
 use Prim.Native.Nat.{ℕ, ◌*◌, ◌≤◌}
-use lib.ListN.{length, take}
+use lib.ListN.{take}
 use lib.Seq.{take_at}
 use Rattle.spec.specs.Book.{Book, admitted_of}
 use Rattle.spec.proofs.Decided.Rows.{all_rows, all_rows-sound}

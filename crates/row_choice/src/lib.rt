@@ -1,5 +1,6 @@
 // The task of choosing rows, posed for a sound book's question over all its summary rows.
 #![tactic(auto)]
+
 ghost use Rattle.std.specs.Prelude.{◌≤◌};
 ghost use Rattle.spec.specs.Table.{most_rows};
 ghost use Rattle.book_codes.specs.RowsGiven.{RowsGiven};

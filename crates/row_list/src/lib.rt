@@ -1,5 +1,6 @@
 // All summary rows of a sound book, in order, as codes.
 #![tactic(auto)]
+
 ghost use Rattle.row_list.specs.Listing.{ListNeeds, ListSays};
 ghost use Rattle.row_list.specs.Placings.{SummaryTaskNeeds, PlacedRows};
 ghost use Rattle.row_list.specs.Turns.{TargetNeeds, TurnNeeds, TurnSays};

@@ -1,5 +1,6 @@
 // A rule's bytes as codes: terms, subgoals, bodies, heads, uses.
 #![tactic(auto)]
+
 pub mod ascending; // codes in order, each once
 pub mod bodies; // a body as a source and as a target
 pub mod heads; // a head's codes and bindings

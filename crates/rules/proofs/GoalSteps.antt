@@ -1,19 +1,17 @@
 -- What a subgoal's step answers, one law for each return of the code.
 use mathlib.Core.Path.{◌≡◌, refl, sym, ap, ap₂, ◌∙◌}
-use mathlib.Core.Bool.{Bool, true, false, cond}
-use mathlib.Core.List.{List, [], ◌∷◌}
+use mathlib.Core.List.{List, ◌∷◌}
 use Prim.Native.Nat.{ℕ, ◌+◌, ◌<◌, ◌≤◌}
 use native.Mathlib.Numerals.{add-one}
 use lib.ListN.{length, get_or, drop, drop_of_length-le}
 use lib.Seq.{drop-cons}
-use lib.Dec.{ltb}
 use borrow.Author.Tests.{lt-ltb, le-ltb}
-use Rattle.spec.specs.Words.{Term, Subgoal}
+use Rattle.spec.specs.Words.{Term}
 use Rattle.spec.proofs.Bytes.RuleReading.{Read, got, bad, bad_relation, and_then, read_term, read_many, as_subgoal, read_subgoal}
 use Rattle.rules.specs.declared.subgoals.Fault.TheVariants.{Relation, Early}
 use Rattle.rules.specs.declared.subgoals.Marks.{Marks}
 use Rattle.rules.specs.declared.subgoals.Step.{Step}
-use Rattle.rules.specs.declared.subgoals.Step.TheVariants.{Next, Bad}
+use Rattle.rules.specs.declared.subgoals.Step.TheVariants.{Bad}
 use Rattle.rules.specs.Marked.{stepped, marks, of_goal}
 
 module _ (m : Marks) (arities s : List ℕ) (at : ℕ) where

@@ -1,8 +1,8 @@
 -- Noting one term more.
-use mathlib.Core.Path.{◌≡◌, refl, sym, ap, ap₂, ◌∙◌}
+use mathlib.Core.Path.{◌≡◌, refl, sym, ap, ap₂}
 use mathlib.Core.Bool.{Bool, true, false, ◌&&◌, not}
 use Prim.Native.Nat.{ℕ}
-use Rattle.spec.specs.Words.{Term, var, con}
+use Rattle.spec.specs.Words.{var, con}
 use Rattle.bits.specs.Sets.{with, has}
 use Rattle.rules.specs.declared.subgoals.Marks.{Marks}
 use Rattle.rules.specs.Marked.{mark}

@@ -1,8 +1,7 @@
 -- The verdict on a rule's bytes: one law for each return of the code, and that two verdicts on the same bytes are the same.
 use mathlib.Core.Path.{◌≡◌, refl, sym, ap, ◌∙◌, subst}
-use mathlib.Core.Logic.{◌↔◌}
 use mathlib.Core.Bool.{Bool, true, false}
-use mathlib.Core.List.{List, []}
+use mathlib.Core.List.{List}
 use Prim.Native.Nat.{ℕ}
 use native.Mathlib.Omega.{arith}
 use Rattle.spec.specs.Words.{Rule, Safe, DistinctVariables}
@@ -21,7 +20,7 @@ use Rattle.rules.specs.declared.Verdict.{Verdict}
 use Rattle.rules.specs.declared.Verdict.TheVariants.{Sound, Broken, Unsafe, Repeats}
 use Rattle.rules.specs.Marked.{none, marks, goal_marks, fault_of}
 use Rattle.rules.specs.Wholes.{whole_of, broken_by}
-use Rattle.rules.specs.Judged.{fault_says, IsSound, IsBroken, IsUnsafe, IsRepeating, Judged}
+use Rattle.rules.specs.Judged.{fault_says, IsSound, IsUnsafe, IsRepeating, Judged}
 use Rattle.rules.proofs.Meaning.{safe-within, plain-head}
 
 fault-back : (f : reading.Fault) → fault_says (fault_of f) ≡ f

@@ -1,5 +1,5 @@
 -- What the reader notes of terms on the way, and how a reading from the front becomes a step's answer.
-use Rattle.std.specs.Prelude.{Bool, true, false, ◌&&◌, not, List, [], ◌∷◌, ℕ, ◌-◌, length}
+use Rattle.std.specs.Prelude.{true, false, ◌&&◌, not, List, [], ◌∷◌, ℕ, ◌-◌, length}
 use Rattle.spec.specs.Words.{Term, var, con, Subgoal}
 use Rattle.spec.proofs.Bytes.RuleReading.{Read, got, bad}
 use Rattle.spec.proofs.Bytes.RuleReading as reading

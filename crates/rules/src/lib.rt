@@ -1,5 +1,6 @@
 // A rule's bytes, read strictly from the front: is it sound, and if not, for which reason.
 #![tactic(auto)]
+
 ghost use Rattle.std.specs.Prelude.{◌≡◌};
 ghost use Rattle.spec.proofs.Bytes.RuleReading.{read_rule};
 ghost use Rattle.rules.specs.Marked.{none};

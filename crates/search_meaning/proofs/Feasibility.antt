@@ -6,17 +6,17 @@ use Prim.Native.Nat.{ℕ, ◌<◌, ◌≤◌}
 use native.Mathlib.Omega.{arith}
 use lib.ListN.{length, length-map}
 use Rattle.spec.specs.Words.{Term, con, Subgoal, Rule, becomes, each}
-use Rattle.spec.specs.Summaries.{Summaries, Own, uses, joined}
+use Rattle.spec.specs.Summaries.{Summaries, uses, joined}
 use Rattle.spec.proofs.Lists.At.{map_get}
 use Rattle.choice_theory.specs.Numbered.{nothing, kept_head}
 use Rattle.choice_theory.specs.MapsAt.{MapsAt}
 use Rattle.choice_theory.specs.Can.{CanBy}
-use Rattle.choice_theory.specs.Placed.{PlacedInRows, row_of, owners, AnyPair}
+use Rattle.choice_theory.specs.Placed.{PlacedInRows, owners, AnyPair}
 use Rattle.choice_theory.proofs.Placing.{placed-is}
 use Rattle.outcomes.specs.Bounds.{Bounds, RowsWithin}
 use Rattle.bits.specs.Sets.{Has}
 use Rattle.task.specs.Task.{Task, Sized}
-use Rattle.task.specs.Mapped.{InRows, Mapped, Feasible}
+use Rattle.task.specs.Mapped.{Mapped, Feasible}
 use Rattle.search_meaning.specs.HeadBound.{HeadBound}
 use Rattle.search_meaning.specs.Tasks.{there_task}
 use Rattle.search_meaning.proofs.AtPlaces.{Indexed, places-indexed, indexed-places}

@@ -6,7 +6,6 @@ use Rattle.spec.specs.Numbers.{number_at}
 use Rattle.spec.specs.BookLayout.{book_bytes, contents_end, entries}
 use Rattle.spec.specs.Contents.{count}
 use Rattle.spec.specs.Refusals.{longest}
-use Rattle.spec.specs.Table.{most_rows}
 use Rattle.spec.proofs.Lists.Tests.{every, every-sound}
 use Rattle.spec.proofs.Examples.Values as values
 use Rattle.sheets.specs.Sheet.{Sheet, ComesTrue}

@@ -1,7 +1,7 @@
 -- The answer and its witness: the first of the shortest equivalent lists of rows, and its mappings there and back.
 use Rattle.std.specs.Prelude.{◌≡◌, List, [], ◌∷◌, map, ℕ, ◌<◌}
-use Rattle.std.proofs.Math.Option.{Option, some, none}
-use Rattle.spec.specs.Words.{◌∈◌, Term, var, con, Subgoal, Rule, becomes, each}
+use Rattle.std.proofs.Math.Option.{some}
+use Rattle.spec.specs.Words.{◌∈◌, Term, con, Subgoal, Rule, becomes, each}
 use Rattle.spec.specs.Summaries.{place, Summaries, SummaryRow, Own, uses, expansion, Equivalent, rewriting}
 use Rattle.spec.specs.Order.{ListBefore, Ascending, ShorterFirst, First}
 

@@ -1,6 +1,6 @@
 -- A book's value as bytes, and the bounds of a book's value.
 use Rattle.std.specs.Prelude.{◌≡◌, List, [], ◌∷◌, ◌++◌, map, ℕ, ◌+◌, ◌*◌, ◌<◌, ◌≤◌, length}
-use Rattle.spec.specs.Words.{◌∈◌, Term, Rule, Safe, DistinctVariables}
+use Rattle.spec.specs.Words.{◌∈◌, Rule, Safe, DistinctVariables}
 use Rattle.spec.specs.Summaries.{joined}
 use Rattle.spec.specs.Book.{Summary, Book}
 use Rattle.spec.specs.Numbers.{little}

@@ -1,8 +1,7 @@
 -- What stands in a book's contents, read off its bytes.
-use Rattle.std.specs.Prelude.{◌≡◌, List, [], ℕ, zero, suc, ◌+◌, ◌*◌, ◌<◌, ◌≤◌, length, take, drop}
-use Rattle.spec.specs.Words.{◌∈◌}
+use Rattle.std.specs.Prelude.{◌≡◌, List, ℕ, zero, suc, ◌+◌, ◌*◌, ◌<◌, ◌≤◌, length, take, drop}
 use Rattle.spec.specs.Numbers.{number_at}
-use Rattle.spec.specs.BookLayout.{entries, contents_end, most_summaries, Arities}
+use Rattle.spec.specs.BookLayout.{entries, contents_end, Arities}
 
 -- "Bytes 0 and 1: the count n of summaries"
 unfoldable pub count : List ℕ → ℕ

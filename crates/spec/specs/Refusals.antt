@@ -1,5 +1,5 @@
 -- The refusal table's rows 2 to 8, each in the table's words, and their order.
-use Rattle.std.specs.Prelude.{◌≡◌, ◌⊎◌, List, ℕ, zero, suc, ◌+◌, ◌<◌, ◌≤◌, length}
+use Rattle.std.specs.Prelude.{◌⊎◌, List, ℕ, zero, suc, ◌<◌, ◌≤◌, length}
 use Rattle.spec.specs.Words.{Rule, Safe, DistinctVariables}
 use Rattle.spec.specs.declared.Reason.{Reason}
 use Rattle.spec.specs.RuleLayout.{Layout}

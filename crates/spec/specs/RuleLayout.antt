@@ -1,5 +1,5 @@
 -- A rule as bytes, and the bounds of a rule.
-use Rattle.std.specs.Prelude.{◌≡◌, List, [], ◌∷◌, ◌++◌, map, ℕ, ◌<◌, ◌≤◌, length}
+use Rattle.std.specs.Prelude.{◌≡◌, List, ◌∷◌, ◌++◌, map, ℕ, ◌<◌, ◌≤◌, length}
 use Rattle.spec.specs.Words.{◌∈◌, Term, var, con, Subgoal, Rule, AllFit}
 use Rattle.spec.specs.Summaries.{joined}
 use Rattle.spec.specs.Numbers.{little}

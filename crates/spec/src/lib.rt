@@ -1,6 +1,7 @@
 // What must be believed, in specs/: the words of the specification, the layout of books, the refusal table, and what is promised.
 // Here stand the types that public functions answer with, and the limits, each of which has its definition in specs/; there is no code.
 // The laws of the definitions stand in proofs/.
+#![tactic(auto)]
 
 // A refusal: the table's number, and its place, which is the entry of a faulty rule and 0 for all else.
 // Callers in C are told a sound book as number 0 at place 0.

@@ -8,7 +8,7 @@ use lib.ListN.{length, get_or, take, drop, length-append, length-drop, get_or-ap
 use lib.Seq.{length-take-le, get_or-take}
 use Rattle.spec.specs.Order.{ListBefore, First}
 use Rattle.spec.proofs.Lists.At.{choices}
-use Rattle.task.specs.Task.{Task, goals, targets}
+use Rattle.task.specs.Task.{Task, goals}
 use Rattle.task.specs.Completion.{Completion}
 use Rattle.placing.specs.SearchAnswer.{PlacesFrom}
 use Rattle.placing.specs.declared.Places.{Places}

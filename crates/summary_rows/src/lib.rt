@@ -1,5 +1,6 @@
 // The rows of one summary, in order, as codes: one after the other, each written behind those before it.
 #![tactic(auto)]
+
 ghost use Rattle.std.specs.Prelude.{◌≡◌, ◌+◌, ◌*◌, ◌<◌, ◌≤◌, length, get_or, take};
 ghost use Rattle.std.proofs.Math.Seq.{paste};
 ghost use Rattle.codes.specs.Code.{subgoal_size};

@@ -1,5 +1,5 @@
 -- A completion from the first source subgoal on says the same as one value for each shared variable and for each use's own.
-use mathlib.Core.Bool.{true, false, cond}
+use mathlib.Core.Bool.{cond}
 use mathlib.Core.Path.{◌≡◌, refl, ap, sym, ◌∙◌, fun_ext}
 use mathlib.Core.List.{List, [], ◌∷◌}
 use Prim.Native.Nat.{ℕ, zero, suc, ◌+◌, ◌-◌, ◌<◌, ◌≤◌}
@@ -8,7 +8,7 @@ use native.Mathlib.Decide.{ℕ_discrete, dec_lt}
 use lib.ListN.{length, get_or}
 use lib.Dec.{ltb}
 use borrow.Author.Tests.{lt-ltb, le-ltb, eq-eqb, ne_eqb}
-use Rattle.task.specs.Task.{Task, goals, targets, last_of, Agrees, Linked, Completes, done, put, Extends}
+use Rattle.task.specs.Task.{Task, goals, targets, last_of, Agrees, Linked, Completes, done, put}
 use Rattle.task.specs.Mapped.{use_of, Lands, Mapped}
 use Rattle.task.specs.Completion.{Completion}
 

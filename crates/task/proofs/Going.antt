@@ -1,8 +1,8 @@
 -- The pass: the places from the source subgoal i on complete what is bound there exactly if all of them are those of a mapping.
-use mathlib.Core.Bool.{Bool, true, false, true≢false, false≢true}
+use mathlib.Core.Bool.{Bool, true, false, false≢true}
 use mathlib.Core.Path.{◌≡◌, refl, ap, sym, ◌∙◌}
 use mathlib.Core.List.{List, [], ◌∷◌}
-use Prim.Native.Nat.{ℕ, zero, suc, ◌+◌, ◌-◌, ◌<◌, ◌≤◌}
+use Prim.Native.Nat.{ℕ, suc, ◌+◌, ◌-◌, ◌<◌, ◌≤◌}
 use native.Mathlib.Omega.{arith}
 use native.Mathlib.Numerals.{add-one}
 use lib.ListN.{length, get_or, take, drop}
@@ -11,7 +11,7 @@ use Rattle.task.specs.Task.{Task, goals, targets, Agrees, Linked, Completes, don
 use Rattle.task.specs.Mapped.{Mapped}
 use Rattle.task.specs.Completion.{Completion}
 use Rattle.task.specs.Follows.{Follows}
-use Rattle.task.specs.Leads.{CarriedOn, Leads}
+use Rattle.task.specs.Leads.{Leads}
 use Rattle.task.proofs.Onward.{step, stepped}
 use Rattle.task.proofs.Chain.{completion-mapped, mapped-completion}
 

@@ -3,7 +3,6 @@ use mathlib.Core.Path.{◌≡◌, refl, sym, ◌∙◌}
 use mathlib.Core.List.{List, ◌∷◌}
 use Prim.Native.Nat.{ℕ, suc, ◌-◌, ◌<◌}
 use native.Mathlib.Omega.{arith}
-use lib.ListN.{get_or}
 use Rattle.task.specs.Task.{Task, goals, targets, target_relation, source_relation, width_of, last_of, Agrees, Linked, Completes, put, Extends}
 use Rattle.task.specs.Completion.{Completion}
 use Rattle.task.specs.Terms.{Opened}

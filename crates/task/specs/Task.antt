@@ -1,7 +1,7 @@
 -- A task of placing: each of some source subgoals is to become one of some target subgoals, under one value for each of the source's variables.
 -- A subgoal is nine codes: its relation, then eight terms, of which the first few count.
 -- A source term below 64 is a slot, and stands for a variable: slots 0 to 31 are shared, 32 to 63 are the current use's own. Any other code stands for itself.
-use Rattle.std.specs.Prelude.{◌≡◌, Bool, true, false, cond, List, [], ◌∷◌, ℕ, zero, suc, ◌+◌, ◌*◌, ◌<◌, ◌≤◌, length, get_or, ltb}
+use Rattle.std.specs.Prelude.{◌≡◌, cond, List, [], ◌∷◌, ℕ, zero, suc, ◌+◌, ◌*◌, ◌<◌, ◌≤◌, length, get_or, ltb}
 use Rattle.spec.specs.BookLayout.{most_arity}
 use Rattle.spec.specs.Table.{most_rows}
 use Rattle.spec.specs.RuleLayout.{variables}

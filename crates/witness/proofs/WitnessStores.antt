@@ -1,10 +1,10 @@
 -- What writing one more pair, or one more place, leaves.
-use mathlib.Core.Path.{◌≡◌, refl, sym, ap, ap₂, ◌∙◌}
+use mathlib.Core.Path.{◌≡◌, refl, sym, ap, ◌∙◌}
 use mathlib.Core.List.{List, [], ◌∷◌, ◌++◌}
-use Prim.Native.Nat.{ℕ, zero, suc, ◌+◌, ◌*◌, ◌<◌, ◌≤◌}
+use Prim.Native.Nat.{ℕ, zero, suc, ◌+◌, ◌*◌}
 use native.Mathlib.Omega.{arith}
 use native.Mathlib.Numerals.{add-one}
-use lib.ListN.{length, get_or, set, length-append}
+use lib.ListN.{length, get_or, set}
 use lib.Seq.{sets}
 use Rattle.spec.proofs.Lists.Stores.{sets-next}
 use Rattle.witness.specs.WitnessBytes.{pair_bytes, place_bytes}

@@ -1,4 +1,4 @@
-use Rattle.std.proofs.Common.{◌≡◌, sym, ap, ◌∙◌, rules}
+use Rattle.std.proofs.Common.{sym, ap, ◌∙◌, rules}
 use Rattle.spec.specs.Refresh.{leads_by, admitted}
 use Rattle.spec.specs.LeadSays.{lead_says}
 use Rattle.admission.proofs.Signs.{leads}

@@ -1,4 +1,4 @@
-use Rattle.std.proofs.Common.{arith, rules}
+use Rattle.std.proofs.Common.{arith}
 use Rattle.admission.proofs.Leads.{unfilled-lead, under-0, low, high, behind-fits}
 use Rattle.admission.proofs.lead_of.Goals as goal
 

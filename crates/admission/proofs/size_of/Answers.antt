@@ -1,4 +1,4 @@
-use Rattle.std.proofs.Common.{true, false, w32, w64, rules}
+use Rattle.std.proofs.Common.{true, false, w32, w64}
 use mir.ValLaws.{to_z-of_z}
 use Rattle.admission.proofs.Signs.{NegativeLead, below, above, tested}
 use Rattle.admission.proofs.size_of.Goals as goal

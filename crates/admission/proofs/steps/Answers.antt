@@ -1,4 +1,4 @@
-use Rattle.std.proofs.Common.{arith, rules}
+use Rattle.std.proofs.Common.{arith}
 use Rattle.admission.proofs.steps.Goals as goal
 
 -- That the machine's difference, or one fewer, is the distance is `omega`'s, from what `wrapping_sub_u32` ensures.

@@ -1,7 +1,6 @@
 use mathlib.Core.Path.{refl}
 use native.Mathlib.Omega.{arith}
 use Rattle.answer.proofs.PutLaws.{witness-room, tells, question-there, writable, lengths-fit, there-kept, accepted}
-use borrow.Author.Rules.{rules}
 use Rattle.answer.proofs.put_all.Goals as goal
 
 pub put_there-there-requires : goal.put_there-there-requires

@@ -1,6 +1,5 @@
 use native.Mathlib.Omega.{arith}
 use Rattle.answer.proofs.ChosenLaws.{pickable, puts}
-use borrow.Author.Rules.{rules}
 use Rattle.answer.proofs.put_chosen.Goals as goal
 
 pub pick-requires : goal.pick-requires

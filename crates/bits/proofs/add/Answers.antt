@@ -1,4 +1,3 @@
-use borrow.Author.Rules.{rules}
 use Rattle.bits.proofs.Laws.{with-is}
 use Rattle.bits.proofs.add.Goals as goal
 

@@ -1,7 +1,6 @@
 use mathlib.Core.Path.{◌≡◌, ap}
 use Prim.Native.Nat.{◌-◌}
 use native.Mathlib.Omega.{arith}
-use borrow.Author.Rules.{rules}
 use lib.Pow.{ones_lt}
 use Rattle.bits.specs.Sets.{first}
 use Rattle.bits.proofs.Less.{bit_is}

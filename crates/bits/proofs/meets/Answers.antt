@@ -1,6 +1,5 @@
 use mathlib.Core.Path.{ap}
 use mathlib.Core.Bool.{not}
-use mathlib.Core.Logic.{◌↔◌}
 use borrow.Author.Tests.{not-false, eqb-true, eq-eqb}
 use Rattle.bits.proofs.Laws.{apart-and, and-apart}
 use Rattle.bits.proofs.meets.Goals as goal

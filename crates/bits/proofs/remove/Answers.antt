@@ -1,6 +1,5 @@
 use mathlib.Core.Path.{ap₂}
 use native.Mathlib.Omega.{arith}
-use borrow.Author.Rules.{rules}
 use lib.Bits.{bit_xor}
 use Rattle.bits.specs.Sets.{without}
 use Rattle.bits.proofs.Less.{bit_is}

@@ -1,4 +1,3 @@
-use mathlib.Core.Logic.{◌↔◌}
 use borrow.Author.Tests.{eqb-true, eq-eqb}
 use Rattle.bits.proofs.Laws.{within-or, or-within}
 use Rattle.bits.proofs.within.Goals as goal

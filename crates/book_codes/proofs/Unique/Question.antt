@@ -2,11 +2,9 @@
 use mathlib.Core.Path.{◌≡◌, sym, ◌∙◌}
 use mathlib.Core.List.{List}
 use Prim.Native.Nat.{ℕ}
-use native.Mathlib.Omega.{arith}
 use native.Mathlib.Decide.{ℕ_discrete}
 use lib.ListN.{length, get_or}
 use lib.Seq.{ext_get_or}
-use Rattle.spec.specs.Words.{◌∈◌, var}
 use Rattle.search_meaning.specs.HeadBound.{HeadBound}
 use Rattle.book_codes.specs.Question.{SomeSound, QuestionSource, QuestionTarget, QuestionBound}
 

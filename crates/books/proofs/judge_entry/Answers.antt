@@ -1,16 +1,6 @@
-use mathlib.Core.Path.{◌≡◌, ap, sym, ◌∙◌, subst}
-use mathlib.Core.Bool.{Bool}
-use mathlib.Core.List.{List}
-use Prim.Native.Nat.{ℕ, ◌<◌, ◌+◌, ◌-◌}
 use native.Mathlib.Omega.{arith}
-use borrow.Author.Rules.{rules}
-use lib.ListN.{take, drop}
-use Rattle.spec.specs.Contents.{offset_at, length_at, part_at, entries_in}
-use Rattle.spec.specs.Refusals.{most_at}
 use Rattle.spec.proofs.Bytes.Within.{loads-room, part-within}
-use Rattle.rules.specs.Judged.{Judged}
-use Rattle.books.specs.Entries.{summary_at}
-use Rattle.books.proofs.Entries.{Verdicts, verdict-of}
+use Rattle.books.proofs.Entries.{verdict-of}
 use Rattle.books.proofs.judge_entry.Goals as goal
 
 -- src/lib.rt:60:9

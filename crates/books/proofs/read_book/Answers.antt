@@ -1,5 +1,4 @@
 use mathlib.Core.Path.{subst}
-use borrow.Author.Rules.{rules}
 use Rattle.spec.specs.Loading.{LoadSays}
 use Rattle.books.proofs.read_book.Goals as goal
 

@@ -1,6 +1,5 @@
 use mathlib.Core.Path.{ap, sym, ◌∙◌}
 use Rattle.spec.specs.Reading.{told_of}
-use borrow.Author.Rules.{rules}
 use Rattle.books.proofs.tell.Goals as goal
 
 pub returns-in-Sound : goal.returns-in-Sound

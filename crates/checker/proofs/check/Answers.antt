@@ -1,5 +1,4 @@
 use Rattle.checker.proofs.Yes.{read-sound, read-refused}
-use borrow.Author.Rules.{rules}
 use Rattle.checker.proofs.check.Goals as goal
 
 pub check_sound-requires : goal.check_sound-requires

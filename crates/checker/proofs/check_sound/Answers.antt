@@ -1,6 +1,5 @@
 use native.Mathlib.Omega.{arith}
 use Rattle.checker.proofs.Yes.{no-rule, few, confirmed}
-use borrow.Author.Rules.{rules}
 use Rattle.checker.proofs.check_sound.Goals as goal
 
 pub propose-proposal-requires : goal.propose-proposal-requires

@@ -1,9 +1,7 @@
-use borrow.Author.Tests.{not-true, not-false}
 use mathlib.Core.Path.{sym}
 use native.Mathlib.Omega.{arith}
 use lib.Seq.{length-take-le}
 use Rattle.checker.proofs.Parts.{few-sound, goals-few, too_short, not_there, both-parts}
-use borrow.Author.Rules.{rules}
 use Rattle.checker.proofs.confirms.Goals as goal
 
 pub question_goals-middle-requires : goal.question_goals-middle-requires

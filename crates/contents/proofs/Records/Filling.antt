@@ -1,13 +1,12 @@
 -- The table while it is being filled, and what it is afterwards.
 use mathlib.Core.Path.{◌≡◌, refl, ap, sym, subst, ◌∙◌}
-use mathlib.Core.List.{List, [], ◌∷◌, ◌++◌}
+use mathlib.Core.List.{List, ◌++◌}
 use Prim.Native.Nat.{ℕ, zero, suc, ◌+◌, ◌*◌, ◌<◌, ◌≤◌}
 use native.Mathlib.Omega.{arith}
 use lib.ListN.{length, set, drop, length-set}
 use lib.Seq.{sets, sets-eq}
 use Rattle.spec.specs.BookLayout.{entries}
-use Rattle.spec.specs.Contents.{count, entries_in, offset_at, length_at, stamp_at}
-use Rattle.spec.specs.Refusals.{Loads}
+use Rattle.spec.specs.Contents.{offset_at, length_at, stamp_at}
 use Rattle.spec.specs.TableLoading.{record_at, records_from, JudgeSays, Afterwards, LoadingSays}
 use Rattle.spec.specs.declared.Entry.{Entry}
 use Rattle.spec.specs.declared.Loaded.{Loaded}

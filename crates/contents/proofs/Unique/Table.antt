@@ -1,10 +1,9 @@
 -- Any two results that meet a promise of this crate are equal: the answer, and every record of the table.
 use mathlib.Core.Path.{◌≡◌, refl, ap, sym, subst, ◌∙◌}
 use mathlib.Core.List.{List}
-use Prim.Native.Nat.{ℕ, ◌<◌, ◌≤◌}
+use Prim.Native.Nat.{ℕ}
 use native.Mathlib.Omega.{arith}
 use lib.ListN.{length}
-use Rattle.spec.specs.Refusals.{Loads}
 use Rattle.spec.specs.TableLoading.{TableRefusal, one, then, JudgeSays, Afterwards, LoadingSays}
 use Rattle.spec.specs.declared.Entry.{Entry}
 use Rattle.spec.specs.declared.Reason.{Reason}

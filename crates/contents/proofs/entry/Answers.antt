@@ -1,12 +1,5 @@
-use mathlib.Core.Path.{◌≡◌, refl}
-use Prim.Native.Nat.{ℕ, ◌+◌, ◌*◌, ◌≤◌, ◌<◌}
-use mathlib.Core.List.{List}
+use mathlib.Core.Path.{refl}
 use native.Mathlib.Omega.{arith}
-use lib.ListN.{length}
-use Rattle.spec.specs.Contents.{count, entries_in}
-use Rattle.spec.specs.Refusals.{Loads}
-use Rattle.spec.specs.declared.Loaded.{Loaded}
-use Rattle.spec.specs.declared.Loaded.TheVariants.{Good}
 use Rattle.spec.proofs.Bytes.Within.{entries-counted, loads-room, part-within, part-lent}
 use Rattle.spec.proofs.Bytes.FirstFaults.{loads-unrefused}
 use Rattle.contents.proofs.Answers.{good, refused}

@@ -1,13 +1,6 @@
-use mathlib.Core.Path.{◌≡◌}
-use native.Mathlib.Omega.{arith}
-use mathlib.Core.List.{List}
-use Prim.Native.Nat.{ℕ, ◌≤◌}
-use lib.ListN.{length}
-use Rattle.spec.specs.Contents.{count}
-use Rattle.spec.specs.Refusals.{Fault2, Fault3, four, five}
+use Rattle.spec.specs.Refusals.{four, five}
 use Rattle.contents.proofs.Entries.Answers.{passed, faulty}
 use Rattle.contents.proofs.Sizes.{told, too_short, too_long, right-size, few-counted, few-said, too_many}
-use borrow.Author.Rules.{rules}
 use Rattle.contents.proofs.load.Goals as goal
 
 pub returns-then-size-lt2 : goal.returns-then-size-lt2

@@ -1,6 +1,5 @@
 use native.Mathlib.Omega.{arith}
 use Rattle.first_shortest.proofs.Steps.{chooses_none}
-use borrow.Author.Rules.{rules}
 use Rattle.first_shortest.proofs.choose.Goals as goal
 
 pub first_rows-requires : goal.first_rows-requires

@@ -1,9 +1,5 @@
-use borrow.Author.Rules.{rules}
 use native.Mathlib.Omega.{arith}
-use Prim.Native.Nat.{◌≤◌, ◌-◌}
-use borrow.Author.Tests.{not-true, not-false}
-use Rattle.task.specs.Task.{posed}
-use Rattle.first_shortest.proofs.Steps.{Cannot, cannot-start, cannot-next, fewest-here, fewest-none, fewest-last}
+use Rattle.first_shortest.proofs.Steps.{cannot-start, cannot-next, fewest-here, fewest-none, fewest-last}
 use Rattle.first_shortest.proofs.fewest.Goals as goal
 
 pub overflow_cast-n : goal.overflow_cast-n

@@ -1,9 +1,6 @@
-use borrow.Author.Rules.{rules}
-use native.Mathlib.Omega.{arith}
-use Prim.Native.Nat.{◌≤◌, ◌-◌}
-use borrow.Author.Tests.{not-true, not-false}
+use Prim.Native.Nat.{◌-◌}
 use Rattle.task.specs.Task.{posed}
-use Rattle.first_shortest.proofs.Steps.{Cannot, cannot-start, cannot-next, fewest-here, fewest-none, fewest-last}
+use Rattle.first_shortest.proofs.Steps.{Cannot}
 use Rattle.first_shortest.proofs.fewest.Given as goal
 
 abbrev pub invariant-loop-k : goal.invariant-loop-k

@@ -1,9 +1,4 @@
 use native.Mathlib.Omega.{arith}
-use Prim.Native.Nat.{◌≤◌, ◌-◌}
-use mathlib.Core.Path.{◌≡◌}
-use borrow.Author.Rules.{rules}
-use Rattle.task.specs.Task.{posed}
-use Rattle.first_shortest.specs.Passing.{Underway}
 use Rattle.first_shortest.proofs.Steps.{underway-start, underway-within, underway-tried, chooses-found}
 use Rattle.first_shortest.proofs.first_rows.Goals as goal
 

@@ -1,5 +1,4 @@
 use Rattle.first_shortest.proofs.Steps.{tried-taken, tried-passed}
-use borrow.Author.Rules.{rules}
 use Rattle.first_shortest.proofs.one_row.Goals as goal
 
 pub can-requires : goal.can-requires

@@ -1,4 +1,3 @@
-use borrow.Author.Rules.{rules}
 use Rattle.first_shortest.specs.Passing.{passing}
 use Rattle.first_shortest.proofs.passed.Goals as goal
 

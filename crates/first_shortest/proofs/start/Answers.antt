@@ -1,4 +1,3 @@
-use borrow.Author.Rules.{rules}
 use lib.ListN.{replicate}
 use Rattle.first_shortest.specs.Passing.{starting}
 use Rattle.first_shortest.proofs.start.Goals as goal

@@ -1,4 +1,3 @@
-use borrow.Author.Rules.{rules}
 use Prim.Native.Nat.{◌+◌, ◌-◌}
 use lib.ListN.{set}
 use Rattle.first_shortest.specs.Passing.{taking}

@@ -1,16 +1,16 @@
 -- Two outlooks that meet the promise are the same.
 use mathlib.Core.Bool.{Bool}
-use mathlib.Core.Path.{◌≡◌, refl, ap, sym}
+use mathlib.Core.Path.{◌≡◌, refl, ap}
 use mathlib.Core.Logic.{◌↔◌}
 use mathlib.Core.List.{List}
 use Prim.Native.Nat.{ℕ, ◌<◌}
 use native.Mathlib.Omega.{arith}
-use native.Mathlib.Decide.{ℕ_discrete, dec_lt}
+use native.Mathlib.Decide.{dec_lt}
 use Rattle.bits.specs.Sets.{Has}
 use Rattle.bits.proofs.Laws.{same-members}
 use Rattle.task.specs.Task.{Task}
 use Rattle.lookahead.specs.declared.reasons.Rows.{Rows}
-use Rattle.lookahead.specs.Outlook.{SlotOf, vainly}
+use Rattle.lookahead.specs.Outlook.{vainly}
 use Rattle.lookahead.specs.Seen.{NoRowFor, Seen, closed, alone, together, fair, LookSays}
 use Rattle.lookahead.specs.declared.Outlook.{Outlook}
 

@@ -1,4 +1,3 @@
-use borrow.Author.Rules.{rules}
 use Rattle.lookahead.proofs.Looking.{clash-known, clash-unbound}
 use Rattle.lookahead.proofs.clashes.Goals as goal
 

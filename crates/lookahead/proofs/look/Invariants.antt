@@ -1,13 +1,7 @@
-use borrow.Author.Rules.{rules}
-use mathlib.Core.Bool.{true≢false}
-use mathlib.Core.Path.{sym, ◌∙◌}
 use Prim.Native.Nat.{◌≤◌, ◌-◌}
-use native.Mathlib.Omega.{arith}
-use borrow.Author.Tests.{not-true, not-false}
 use Rattle.task.specs.Task.{posed}
-use Rattle.lookahead.proofs.InVain.{Wanted, wanted-start, wanted-next, wanted-steady, wanted-more, readable, readable-alone, offers-whole, slots-whole, vain-none, vain-many, fair-said, vain-said}
-use Rattle.lookahead.specs.Seen.{closed}
-use Rattle.lookahead.proofs.Counted.{WantsCounted, counted_start, counted_next, counted-more, hope, despair, contented, wanting, serves, served-by, seen-alone, seen-together, seen-fair}
+use Rattle.lookahead.proofs.InVain.{Wanted}
+use Rattle.lookahead.proofs.Counted.{WantsCounted}
 use Rattle.lookahead.proofs.look.Given as goal
 
 abbrev pub invariant-loop-i : goal.invariant-loop-i

@@ -1,7 +1,5 @@
-use borrow.Author.Rules.{rules}
-use Prim.Native.Nat.{◌≤◌, ◌-◌}
 use native.Mathlib.Omega.{arith}
-use Rattle.lookahead.proofs.Looking.{Mostly, mostly-start, mostly-more, mostly-end}
+use Rattle.lookahead.proofs.Looking.{mostly-start, mostly-more, mostly-end}
 use Rattle.lookahead.proofs.most.Goals as goal
 
 pub loop-x-init : goal.loop-x-init

@@ -1,7 +1,5 @@
-use borrow.Author.Rules.{rules}
 use Prim.Native.Nat.{◌≤◌, ◌-◌}
-use native.Mathlib.Omega.{arith}
-use Rattle.lookahead.proofs.Looking.{Mostly, mostly-start, mostly-more, mostly-end}
+use Rattle.lookahead.proofs.Looking.{Mostly}
 use Rattle.lookahead.proofs.most.Given as goal
 
 abbrev pub invariant-loop-x : goal.invariant-loop-x

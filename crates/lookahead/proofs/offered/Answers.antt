@@ -1,11 +1,7 @@
-use borrow.Author.Rules.{rules}
 use mathlib.Core.Path.{sym, ◌∙◌}
-use Prim.Native.Nat.{◌≤◌, ◌-◌}
 use native.Mathlib.Omega.{arith}
 use borrow.Author.Tests.{not-true, not-false}
-use mathlib.Core.List.{[]}
-use Rattle.task.specs.Task.{posed}
-use Rattle.lookahead.proofs.Looking.{Agreeable, agreeable-start, agreeable-more, offered-shut, offered-relation, offered-clash, offered-all}
+use Rattle.lookahead.proofs.Looking.{agreeable-start, agreeable-more, offered-shut, offered-relation, offered-clash, offered-all}
 use Rattle.lookahead.proofs.offered.Goals as goal
 
 pub overflow_cast-own : goal.overflow_cast-own

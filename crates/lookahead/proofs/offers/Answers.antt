@@ -1,11 +1,6 @@
-use borrow.Author.Rules.{rules}
 use mathlib.Core.Path.{sym, ◌∙◌}
-use Prim.Native.Nat.{◌-◌}
 use native.Mathlib.Omega.{arith}
-use borrow.Author.Tests.{not-true, not-false}
-use mathlib.Core.List.{[]}
-use Rattle.task.specs.Task.{posed}
-use Rattle.lookahead.proofs.Looking.{Offering, offered-as, offering-start, offering-none, offering-more, offers-used, offers-all}
+use Rattle.lookahead.proofs.Looking.{offered-as, offering-start, offering-none, offering-more, offers-used, offers-all}
 use Rattle.lookahead.proofs.offers.Goals as goal
 
 pub loop-k-init : goal.loop-k-init

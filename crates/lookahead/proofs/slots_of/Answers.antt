@@ -1,9 +1,5 @@
-use borrow.Author.Rules.{rules}
-use Prim.Native.Nat.{◌≤◌, ◌-◌}
 use native.Mathlib.Omega.{arith}
-use mathlib.Core.List.{[]}
-use Rattle.task.specs.Task.{posed}
-use Rattle.lookahead.proofs.Looking.{Slotted, slotted-start, slotted-more, slotted-end}
+use Rattle.lookahead.proofs.Looking.{slotted-start, slotted-more, slotted-end}
 use Rattle.lookahead.proofs.slots_of.Goals as goal
 
 pub width-wide-requires : goal.width-wide-requires

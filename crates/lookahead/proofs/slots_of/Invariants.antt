@@ -1,9 +1,7 @@
-use borrow.Author.Rules.{rules}
 use Prim.Native.Nat.{◌≤◌, ◌-◌}
-use native.Mathlib.Omega.{arith}
 use mathlib.Core.List.{[]}
 use Rattle.task.specs.Task.{posed}
-use Rattle.lookahead.proofs.Looking.{Slotted, slotted-start, slotted-more, slotted-end}
+use Rattle.lookahead.proofs.Looking.{Slotted}
 use Rattle.lookahead.proofs.slots_of.Given as goal
 
 abbrev pub invariant-loop-a : goal.invariant-loop-a

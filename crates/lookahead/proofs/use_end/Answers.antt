@@ -1,6 +1,4 @@
-use borrow.Author.Rules.{rules}
-use Prim.Native.Nat.{◌≤◌, ◌-◌}
-use Rattle.lookahead.proofs.Looking.{UseGoesOn, going_start, going_more, going-ends, going-whole}
+use Rattle.lookahead.proofs.Looking.{going_start, going_more, going-ends, going-whole}
 use Rattle.lookahead.proofs.use_end.Goals as goal
 
 pub loop-i-init : goal.loop-i-init

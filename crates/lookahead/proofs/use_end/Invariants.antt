@@ -1,6 +1,5 @@
-use borrow.Author.Rules.{rules}
-use Prim.Native.Nat.{◌≤◌, ◌-◌}
-use Rattle.lookahead.proofs.Looking.{UseGoesOn, going_start, going_more, going-ends, going-whole}
+use Prim.Native.Nat.{◌-◌}
+use Rattle.lookahead.proofs.Looking.{UseGoesOn}
 use Rattle.lookahead.proofs.use_end.Given as goal
 
 abbrev pub invariant-loop-i : goal.invariant-loop-i

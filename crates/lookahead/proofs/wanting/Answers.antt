@@ -1,8 +1,6 @@
-use borrow.Author.Rules.{rules}
 use mathlib.Core.Path.{refl}
-use Prim.Native.Nat.{◌≤◌, ◌-◌}
 use native.Mathlib.Omega.{arith}
-use Rattle.lookahead.proofs.Looking.{Serving, serving-start, serving-more, serving-end, member-small}
+use Rattle.lookahead.proofs.Looking.{serving-start, serving-more, serving-end, member-small}
 use Rattle.lookahead.proofs.wanting.Goals as goal
 
 pub loop-x-init : goal.loop-x-init

@@ -1,8 +1,5 @@
-use borrow.Author.Rules.{rules}
-use mathlib.Core.Path.{refl}
 use Prim.Native.Nat.{◌≤◌, ◌-◌}
-use native.Mathlib.Omega.{arith}
-use Rattle.lookahead.proofs.Looking.{Serving, serving-start, serving-more, serving-end, member-small}
+use Rattle.lookahead.proofs.Looking.{Serving}
 use Rattle.lookahead.proofs.wanting.Given as goal
 
 abbrev pub invariant-loop-x : goal.invariant-loop-x

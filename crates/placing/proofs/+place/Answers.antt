@@ -1,15 +1,12 @@
-use borrow.Author.Rules.{rules}
-use mathlib.Core.Path.{◌≡◌, refl, sym, ◌∙◌}
-use mathlib.Core.Logic.{⊎_elim}
-use Prim.Native.Nat.{ℕ, ◌<◌, ◌≤◌, ◌+◌, ◌-◌, ◌*◌}
+use mathlib.Core.Path.{refl, sym, ◌∙◌}
+use Prim.Native.Nat.{◌+◌, ◌*◌}
 use native.Mathlib.Omega.{arith}
 use borrow.Author.Tests.{not-true, not-false, eqb-true, eqb-false}
-use lib.ListN.{length, get_or}
-use Rattle.task.specs.Task.{posed}
+use lib.ListN.{get_or}
 use Rattle.task.proofs.Slots.{stood-none}
 use Rattle.lookahead.proofs.Judging.{unsettled}
-use Rattle.task.proofs.Guess.{Guess, guess-start, guess-same, guess-new, guess-full}
-use Rattle.placing.proofs.Refuted.{Refuted, refuted-start, refuted-relation, refuted-row, refuted-unlike, refuted-below}
+use Rattle.task.proofs.Guess.{guess-start, guess-same, guess-new, guess-full}
+use Rattle.placing.proofs.Refuted.{refuted-start, refuted-relation, refuted-row, refuted-unlike, refuted-below}
 use Rattle.placing.proofs.Answered.{answer-end, answer-vain, answer-none, answer-settled, answer-below}
 use Rattle.placing.proofs.+place.Goals as goal
 use Rattle.placing.proofs.+place.Goals.{then-have-eq0, else-have-eq0+else-not-alike}
@@ -120,8 +117,8 @@ loop-a-preserved t c =
       l.invariant.1,
       l.invariant.2,
       elim c.if-have-eq0.branch [
-        then-have-eq0 w ↦ rw (w.g-is, w.new-is, w.noted-new.ensures, ← l.invariant.2) (guess-new _ _ _ _ _ _ _ (rw (← l.invariant.2) at l.invariant.3) (sym stood ∙ w.if-have-eq0.true) (c.requires.sized.solid c.candidates.k l.a (omega (arith, c.candidates-test.true, l.invariant.2)) (omega (arith, c.width-a-end.ensures.1, c.loop-a-test.true))))
-      | else-have-eq0+else-not-alike w ↦ rw (w.g-is, w.new-is) (guess-same _ _ _ _ _ _ _ l.invariant.3 (λ e. w.if-have-eq0.false (stood ∙ e)) (sym stood ∙ eqb-true _ _ (sym w.alike.ensures ∙ w.if-not-alike.false) ∙ rw l.invariant.2))
+        | then-have-eq0 w ↦ rw (w.g-is, w.new-is, w.noted-new.ensures, ← l.invariant.2) (guess-new _ _ _ _ _ _ _ (rw (← l.invariant.2) at l.invariant.3) (sym stood ∙ w.if-have-eq0.true) (c.requires.sized.solid c.candidates.k l.a (omega (arith, c.candidates-test.true, l.invariant.2)) (omega (arith, c.width-a-end.ensures.1, c.loop-a-test.true))))
+        | else-have-eq0+else-not-alike w ↦ rw (w.g-is, w.new-is) (guess-same _ _ _ _ _ _ _ l.invariant.3 (λ e. w.if-have-eq0.false (stood ∙ e)) (sym stood ∙ eqb-true _ _ (sym w.alike.ensures ∙ w.if-not-alike.false) ∙ rw l.invariant.2))
       ],
     )
 

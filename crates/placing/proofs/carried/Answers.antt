@@ -1,4 +1,3 @@
-use borrow.Author.Rules.{rules}
 use lib.ListN.{set}
 use Rattle.placing.proofs.carried.Goals as goal
 

@@ -1,4 +1,3 @@
-use borrow.Author.Rules.{rules}
 use Rattle.placing.proofs.Verdicts.{answer-enough}
 use Rattle.placing.proofs.enough.Goals as goal
 

@@ -1,4 +1,3 @@
-use borrow.Author.Rules.{rules}
 use Rattle.placing.proofs.Verdicts.{places-mapped}
 use Rattle.placing.proofs.first_places.Goals as goal
 

@@ -1,4 +1,3 @@
-use borrow.Author.Rules.{rules}
 use Rattle.placing.proofs.Verdicts.{places-found, places-none}
 use Rattle.placing.proofs.places_from.Goals as goal
 

@@ -1,4 +1,3 @@
-use borrow.Author.Rules.{rules}
 use mathlib.Core.Bool.{true}
 use lib.ListN.{replicate}
 use Rattle.placing.proofs.whole.Goals as goal

@@ -1,5 +1,4 @@
 use Rattle.rewriter.proofs.RefusedLaws.{turned_down, turned-down-by, answer-short, witness-short, read-sound, read-refused}
-use borrow.Author.Rules.{rules}
 use Rattle.rewriter.proofs.rewrite.Goals as goal
 
 pub returns-then-answer-lt-ANSWER_ROOM : goal.returns-then-answer-lt-ANSWER_ROOM

@@ -1,5 +1,4 @@
 use Rattle.rewriter.proofs.RefusedLaws.{turned-down-by, chosen-put, none-do}
-use borrow.Author.Rules.{rules}
 use Rattle.rewriter.proofs.rewrite_rows.Goals as goal
 
 pub put_chosen-long-requires : goal.put_chosen-long-requires

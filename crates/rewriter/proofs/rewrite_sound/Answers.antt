@@ -1,6 +1,5 @@
 use native.Mathlib.Omega.{arith}
 use Rattle.rewriter.proofs.RefusedLaws.{turned-down-by, sought, rows-listed, rows-over}
-use borrow.Author.Rules.{rules}
 use Rattle.rewriter.proofs.rewrite_sound.Goals as goal
 
 pub list_rows-requires : goal.list_rows-requires

@@ -4,7 +4,6 @@ use lib.Seq.{length-take-le}
 use Rattle.book_codes.proofs.Lent.{goals-few, source-room, widths-room}
 use Rattle.row_choice.proofs.AskedLaws.{asked-given, asked-few, asked-sound}
 use Rattle.row_choice.proofs.ChooseSteps.{choose-posed, rows-chosen}
-use borrow.Author.Rules.{rules}
 use Rattle.row_choice.proofs.choose_onto.Goals as goal
 
 pub question_source-k-requires : goal.question_source-k-requires

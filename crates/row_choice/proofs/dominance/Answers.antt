@@ -1,8 +1,6 @@
-use borrow.Author.Rules.{rules}
-use Prim.Native.Nat.{◌≤◌, ◌-◌}
 use mathlib.Core.Path.{refl}
 use native.Mathlib.Omega.{arith}
-use Rattle.row_choice.proofs.TableSteps.{rows-onto, TableFilled, filled-starts, filled-goes, filled-ends}
+use Rattle.row_choice.proofs.TableSteps.{rows-onto, filled-starts, filled-goes, filled-ends}
 use Rattle.row_choice.proofs.dominance.Goals as goal
 
 pub use_starts-requires : goal.use_starts-requires

@@ -1,8 +1,5 @@
-use borrow.Author.Rules.{rules}
 use Prim.Native.Nat.{◌≤◌, ◌-◌}
-use mathlib.Core.Path.{refl}
-use native.Mathlib.Omega.{arith}
-use Rattle.row_choice.proofs.TableSteps.{rows-onto, TableFilled, filled-starts, filled-goes, filled-ends}
+use Rattle.row_choice.proofs.TableSteps.{TableFilled}
 use Rattle.row_choice.proofs.dominance.Given as goal
 
 abbrev pub invariant-loop-r : goal.invariant-loop-r

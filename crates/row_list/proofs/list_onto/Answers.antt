@@ -1,8 +1,5 @@
-use borrow.Author.Rules.{rules}
 use mathlib.Core.Path.{refl}
-use Prim.Native.Nat.{◌≤◌, ◌-◌}
 use native.Mathlib.Omega.{arith}
-use Rattle.row_list.specs.Turns.{TablesTo}
 use Rattle.row_list.proofs.ListSteps.{count_room, tables_start, tables-long, next-turn, tables-go, tables-over, over-long, tables_end}
 use Rattle.row_list.proofs.list_onto.Goals as goal
 

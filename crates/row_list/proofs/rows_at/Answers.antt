@@ -1,4 +1,3 @@
-use borrow.Author.Rules.{rules}
 use native.Mathlib.Omega.{arith}
 use Rattle.spec.proofs.Bytes.BookPasses.{book-loads}
 use Rattle.admission.proofs.Standing.{entry-there}

@@ -1,4 +1,3 @@
-use borrow.Author.Rules.{rules}
 use mathlib.Core.Path.{refl, sym}
 use native.Mathlib.Omega.{arith}
 use Rattle.row_list.proofs.RowsSteps.{goals-few, source-long, widths-long, source-part, widths-part, lasts-part, rows-asked, rows-placed}

@@ -1,5 +1,4 @@
 use mathlib.Core.Path.{ap, sym}
-use borrow.Author.Rules.{rules}
 use Rattle.rules.specs.Wholes.{broken_by}
 use Rattle.rules.proofs.broken.Goals as goal
 

@@ -1,6 +1,4 @@
 use native.Mathlib.Omega.{arith}
-use borrow.Author.Rules.{rules}
-use borrow.Author.Tests.{not-true, not-false}
 use Rattle.rules.proofs.Verdicts.{judged-broken, judged-unsafe, judged-plain, judged-repeating, judged-question}
 use Rattle.rules.proofs.judge.Goals as goal
 

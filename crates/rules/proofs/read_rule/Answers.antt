@@ -1,6 +1,5 @@
-use mathlib.Core.Path.{◌≡◌, ap, sym, ◌∙◌}
+use mathlib.Core.Path.{◌∙◌}
 use native.Mathlib.Omega.{arith}
-use borrow.Author.Rules.{rules}
 use Rattle.rules.proofs.RuleSteps.{no_bytes, bad-heads, one_byte, no-goals, many_goals, head-stops, head-place, goals-stop, bytes-over, all_read}
 use Rattle.rules.proofs.read_rule.Goals as goal
 

@@ -1,5 +1,4 @@
-use mathlib.Core.Path.{◌≡◌, ap, sym, ◌∙◌}
-use borrow.Author.Rules.{rules}
+use mathlib.Core.Path.{ap, sym}
 use Rattle.rules.specs.Wholes.{stopped_by}
 use Rattle.rules.proofs.stopped.Goals as goal
 

@@ -7,7 +7,7 @@ use native.Mathlib.Numerals.{towards_suc}
 use native.Mathlib.Omega.{arith}
 use lib.ListN.{get_or}
 use lib.Seq.{drop-nil, take-nil}
-use Rattle.spec.specs.Numbers.{value, Bytes, number_at}
+use Rattle.spec.specs.Numbers.{Bytes, number_at}
 
 -- No bytes give 0.
 pub number-none : (bs : List ℕ) (at : ℕ) → number_at 0 bs at ≡ 0

@@ -1,13 +1,13 @@
 -- Numbers as bytes: both ways, lengths and bounds.
-use mathlib.Core.Path.{◌≡◌, refl, sym, ap, ap₂, ◌∙◌}
+use mathlib.Core.Path.{◌≡◌, refl, ap, ap₂, ◌∙◌}
 use mathlib.Core.List.{List, [], ◌∷◌, ◌++◌}
 use Prim.Native.Nat.{ℕ, zero, suc, ◌+◌, ◌*◌, ◌/◌, ◌%◌, ◌^◌, ◌<◌, ◌≤◌}
 use native.Mathlib.Omega.{arith}
 use native.Mathlib.Nat.{pow-succ'}
-use lib.ListN.{length, get_or, take, drop, length-take, length-drop}
+use lib.ListN.{length, take, drop, length-drop}
 use lib.Seq.{drop-drop}
 use Rattle.spec.specs.Numbers.{little, value, Bytes, number_at}
-use Rattle.spec.proofs.Bytes.RuleReading.{Read, got, bad, early, and_then, read_number}
+use Rattle.spec.proofs.Bytes.RuleReading.{got, bad, early, and_then, read_number}
 
 pub length-little : (many n : ℕ) → length (little many n) ≡ many
 length-little zero n = refl

@@ -1,15 +1,14 @@
 -- A rule is read exactly where the bytes are its layout: so the layout's rule is unique, and it is decided whether there is one.
 use mathlib.Core.Path.{◌≡◌, refl, sym, ap, ap₂, ◌∙◌, subst}
 use mathlib.Core.Logic.{◌⊎◌, inl, inr, ◌↔◌}
-use mathlib.Core.Bool.{Bool, true, false, cond}
-use mathlib.Core.List.{List, [], ◌∷◌, ◌++◌, map, append_assoc, append-nil}
-use Prim.Native.Nat.{ℕ, zero, suc, ◌+◌, ◌<◌, ◌≤◌}
+use mathlib.Core.Bool.{true, cond}
+use mathlib.Core.List.{List, [], ◌∷◌, ◌++◌, append-nil}
+use Prim.Native.Nat.{ℕ, suc, ◌<◌, ◌≤◌}
 use native.Mathlib.Omega.{arith}
 use lib.ListN.{length, get_or}
-use lib.Dec.{ltb, leb, eqb}
+use lib.Dec.{ltb, leb}
 use borrow.Author.Tests.{ltb-true, lt-ltb, leb-true, le-leb}
-use Rattle.spec.specs.Words.{◌∈◌, Term, Subgoal, Rule, Fits, AllFit}
-use Rattle.spec.specs.Summaries.{joined}
+use Rattle.spec.specs.Words.{Term, Subgoal, Rule, Fits}
 use Rattle.spec.specs.Numbers.{Bytes}
 use Rattle.spec.specs.RuleLayout.{term_bytes, terms_bytes, subgoal_bytes, subgoals_bytes, rule_bytes, TermWithin, TermsWithin, RuleWithin, Layout}
 use Rattle.spec.proofs.Bytes.RuleReading.{Fault, Read, got, bad, bad_count, bad_relation, and_then, read_term, read_many, as_subgoal, read_subgoal, as_rule, read_body, read_head, read_goals, read_rule}

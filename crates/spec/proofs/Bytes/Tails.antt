@@ -1,5 +1,5 @@
 -- What a reading leaves is the end of what it was given.
-use mathlib.Core.Path.{◌≡◌, refl, sym, ap, ◌∙◌}
+use mathlib.Core.Path.{◌≡◌, sym, ap, ◌∙◌}
 use mathlib.Core.Bool.{Bool, true, false, cond}
 use mathlib.Core.List.{List, [], ◌∷◌, ◌++◌, append_assoc}
 use Prim.Native.Nat.{ℕ, zero, suc, ◌+◌, ◌*◌, ◌-◌, ◌≤◌}
@@ -7,8 +7,8 @@ use native.Mathlib.Omega.{arith}
 use lib.ListN.{length, get_or, drop, length-append, length-drop}
 use lib.Seq.{drop-append_seam, drop-drop}
 use lib.Dec.{eqb, ltb}
-use Rattle.spec.specs.Words.{Term, var, con, Subgoal}
-use Rattle.spec.proofs.Bytes.RuleReading.{Read, got, bad, bad_tag, bad_variable, bad_relation, and_then, read_number, as_variable, as_constant, read_tagged, read_term, read_many, as_subgoal, read_subgoal}
+use Rattle.spec.specs.Words.{var}
+use Rattle.spec.proofs.Bytes.RuleReading.{Read, got, bad, bad_tag, bad_variable, bad_relation, and_then, read_number, as_variable, as_constant, read_term, read_many, as_subgoal, read_subgoal}
 use Rattle.spec.proofs.Bytes.TwoWays.{Then, then, tested, not-bad}
 
 pub record EndOf (rest bs : List ℕ) : Type 0 where

@@ -3,17 +3,17 @@ use mathlib.Core.Path.{◌≡◌, refl, sym, ap, ap₂, ◌∙◌, subst}
 use mathlib.Core.Bool.{Bool, true, false, cond}
 use mathlib.Core.List.Memᴰ
 use mathlib.Core.List.{List, [], ◌∷◌, ◌++◌, map, append_assoc}
-use Prim.Native.Nat.{ℕ, zero, suc, ◌+◌, ◌*◌, ◌/◌, ◌%◌, ◌^◌, ◌<◌, ◌≤◌}
+use Prim.Native.Nat.{ℕ, zero, suc, ◌+◌, ◌*◌, ◌/◌, ◌%◌, ◌^◌, ◌<◌}
 use native.Mathlib.Omega.{arith}
 use native.Mathlib.Nat.{pow-succ'}
-use lib.ListN.{length, get_or}
+use lib.ListN.{length}
 use lib.Dec.{ltb, eqb}
-use borrow.Author.Tests.{ltb-true, lt-ltb, eqb-true, eq-eqb}
+use borrow.Author.Tests.{ltb-true, lt-ltb, eqb-true}
 use Rattle.spec.specs.Words.{◌∈◌, Term, var, con}
 use Rattle.spec.specs.Summaries.{joined}
-use Rattle.spec.specs.Numbers.{little, value, Bytes}
+use Rattle.spec.specs.Numbers.{little, Bytes}
 use Rattle.spec.specs.RuleLayout.{term_bytes, TermWithin}
-use Rattle.spec.proofs.Bytes.RuleReading.{Fault, Read, got, bad, bad_tag, bad_variable, early, and_then, read_number, as_variable, as_constant, read_tagged, read_term, read_many}
+use Rattle.spec.proofs.Bytes.RuleReading.{Fault, Read, got, bad, bad_tag, bad_variable, and_then, read_number, as_variable, as_constant, read_term, read_many}
 
 -- a list of bytes, taken apart
 pub other-bytes : (b : ℕ) (bs : List ℕ) → Bytes (b ∷ bs) → Bytes bs

@@ -11,7 +11,7 @@ use Rattle.spec.specs.Numbers.{number_at}
 use Rattle.spec.specs.BookLayout.{entries, contents_end}
 use Rattle.spec.specs.Contents.{count, entries_in, offset_at, length_at, stamp_at, part_at}
 use Rattle.spec.specs.declared.Reason.{Reason}
-use Rattle.spec.specs.Refusals.{longest, of_book, Refusal}
+use Rattle.spec.specs.Refusals.{longest, Refusal}
 use Rattle.spec.proofs.Lists.Tests.{every}
 use Rattle.spec.proofs.Bytes.RefusalTest.{Says}
 use Rattle.spec.proofs.Examples.RefusalCases.{RefusalCase, refused, passes, computed, book_of, changed, are_bytes, cases-meant, cases-only}

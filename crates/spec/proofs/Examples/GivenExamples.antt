@@ -8,7 +8,7 @@ use Rattle.spec.specs.Book.{Book, admitted_of}
 use Rattle.spec.specs.Result.{Answered}
 use Rattle.spec.specs.BookLayout.{entries, contents_end, book_bytes}
 use Rattle.spec.specs.Refusals.{of_book}
-use Rattle.spec.specs.Table.{most_rows, Fault9, RewriterRefusal, ten}
+use Rattle.spec.specs.Table.{Fault9, RewriterRefusal, ten}
 use Rattle.spec.specs.Given.{Given, at_front, answer_bytes, witness_bytes}
 use Rattle.spec.proofs.Decided.RowCount.{rows-within}
 use Rattle.spec.proofs.Decided.Safety.{all_safe-sound}

@@ -4,7 +4,7 @@ use mathlib.Core.Logic.{inl, inr, ⊎_elim}
 use mathlib.Core.List.{[], ◌∷◌}
 use Prim.Native.Nat.{ℕ}
 use native.Mathlib.Omega.{arith}
-use Rattle.spec.specs.Refresh.{Admitted, lead, admitted}
+use Rattle.spec.specs.Refresh.{admitted}
 use Rattle.spec.specs.Book.{Summary}
 use Rattle.spec.specs.LeftOut.{LeftOut, SameButLeftOut}
 use Rattle.spec.proofs.Refresh.Admits.{admitted-test}

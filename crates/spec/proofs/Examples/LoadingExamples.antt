@@ -1,5 +1,5 @@
 -- The lent table after the loader, of contents written out: two records at its front and what stood behind them; on a refusal all that stood there.
-use mathlib.Core.Path.{◌≡◌, refl}
+use mathlib.Core.Path.{refl}
 use mathlib.Core.List.{List, [], ◌∷◌}
 use Prim.Native.Nat.{ℕ}
 use Rattle.spec.specs.Numbers.{number_at}

@@ -11,7 +11,7 @@ use Rattle.spec.specs.Refresh.{admitted}
 use Rattle.spec.specs.Book.{Book, admitted_of}
 use Rattle.spec.specs.BookLayout.{entries, contents_end, book_bytes, SoundBook}
 use Rattle.spec.specs.Refusals.{of_book, two}
-use Rattle.spec.specs.Table.{most_rows, Fault1, Fault9, RewriterRefusal, one, read, nine}
+use Rattle.spec.specs.Table.{Fault1, Fault9, RewriterRefusal, one, read, nine}
 use Rattle.spec.specs.Given.{Given}
 use Rattle.spec.proofs.Decided.Rows.{all_rows, all_rows-sound, all_rows-ascending}
 use Rattle.spec.proofs.Decided.RowCount.{rows-within}

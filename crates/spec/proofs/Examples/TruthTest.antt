@@ -10,7 +10,6 @@ use lib.Dec.{T, eqb, eqb→eq}
 use Rattle.spec.specs.Words.{◌∈◌, Term, Subgoal, Rule}
 use Rattle.spec.specs.Summaries.{summary, Over}
 use Rattle.spec.specs.Answer.{There, Back}
-use Rattle.spec.specs.Refresh.{admitted}
 use Rattle.spec.specs.Book.{Book, admitted_of}
 use Rattle.spec.specs.Numbers.{Bytes}
 use Rattle.spec.specs.RuleLayout.{Layout, rule_bytes}

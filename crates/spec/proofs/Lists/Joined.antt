@@ -2,7 +2,7 @@
 use mathlib.Core.Path.{refl, ◌≡◌, sym, ap, ◌∙◌, subst}
 use mathlib.Core.List.Memᴰ
 use mathlib.Core.List.{List, [], ◌∷◌, map, ◌++◌, append_assoc, append-nil}
-use Prim.Native.Nat.{ℕ, ◌*◌, ◌≤◌, ◌+◌}
+use Prim.Native.Nat.{ℕ, ◌*◌, ◌≤◌}
 use native.Mathlib.Nat.{mul-zero, mul-suc}
 use native.Mathlib.Omega.{arith}
 use lib.ListN.{length, length-append}

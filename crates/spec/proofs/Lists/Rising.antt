@@ -1,10 +1,10 @@
 -- Rising lists: each element before all that follow. Ascending is rising by the order of rows.
 use mathlib.Core.Path.{refl, sym, subst}
-use mathlib.Core.Logic.{⊎_elim, ◌⊎◌}
+use mathlib.Core.Logic.{⊎_elim}
 use mathlib.Core.Bool.{Bool, true, false, cond}
 use mathlib.Core.List.Memᴰ
 use mathlib.Core.List.{List, [], ◌∷◌, ◌++◌, map}
-use Prim.Native.Nat.{ℕ, ◌+◌, ◌-◌}
+use Prim.Native.Nat.{ℕ}
 use Rattle.spec.specs.Words.{◌∈◌, Term, Subgoal}
 use Rattle.spec.specs.Order.{RowBefore, Ascending}
 use Rattle.spec.proofs.Lists.Gathered.{gather, gather-out, passing, passing-out}

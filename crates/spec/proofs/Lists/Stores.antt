@@ -1,7 +1,7 @@
 -- Numbers stored one after the other into a list.
 use mathlib.Core.Path.{◌≡◌, ap, ◌∙◌, sym, refl}
 use mathlib.Core.List.{List, [], ◌∷◌, ◌++◌, append-nil}
-use Prim.Native.Nat.{ℕ, suc, ◌+◌, ◌-◌, ◌≤◌, ◌<◌}
+use Prim.Native.Nat.{ℕ, suc, ◌+◌, ◌≤◌, ◌<◌}
 use native.Mathlib.Omega.{arith}
 use lib.ListN.{length, set, drop, get_or, take, length-drop, drop_of_length-le}
 use lib.Seq.{sets, sets-eq, take-suc, get_or-drop, length-take-le, get_or-set_same, get_or-set_other}

@@ -1,7 +1,7 @@
 -- Lists of zeros: what stands in them, in their fronts and in what is left of them.
 use mathlib.Core.Path.{◌≡◌, refl, ap}
 use mathlib.Core.List.{List, ◌∷◌, [], ◌++◌}
-use Prim.Native.Nat.{ℕ, ◌<◌, zero, suc, ◌≤◌, ◌-◌, ◌+◌}
+use Prim.Native.Nat.{ℕ, ◌<◌, zero, suc, ◌≤◌, ◌+◌}
 use native.Mathlib.Omega.{arith}
 use native.Mathlib.Decide.{dec_lt}
 use lib.ListN.{set, get_or, replicate, length-replicate, get_or-replicate, get_or-eq_default, take, drop, length}

@@ -1,9 +1,8 @@
 use borrow.Author.Rules.{rules}
-use mathlib.Core.Path.{◌≡◌}
-use Prim.Native.Nat.{◌≤◌, ◌-◌, ◌*◌}
+use Prim.Native.Nat.{◌*◌}
 use native.Mathlib.Omega.{arith}
-use lib.ListN.{length, take, length-set}
-use lib.Seq.{paste, paste-zero}
+use lib.ListN.{take, length-set}
+use lib.Seq.{paste-zero}
 use Rattle.summary_rows.specs.RowCodes.{row_codes}
 use Rattle.summary_rows.proofs.RowCodes.{row-long}
 use Rattle.summary_rows.proofs.Copying.{paste-step, paste-end}

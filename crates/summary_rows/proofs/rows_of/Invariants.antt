@@ -1,8 +1,6 @@
 use Prim.Native.Nat.{◌-◌}
-use native.Mathlib.Omega.{arith}
 use Rattle.task.specs.Task.{posed}
-use Rattle.summary_rows.proofs.ListSteps.{State, fewer, head-task, state-start, at_row, room, state-more, state-over, state-end}
-use Rattle.summary_rows.proofs.NextSteps.{row-reach}
+use Rattle.summary_rows.proofs.ListSteps.{State}
 use Rattle.summary_rows.proofs.rows_of.Given as goal
 
 abbrev pub invariant-loop-ok : goal.invariant-loop-ok

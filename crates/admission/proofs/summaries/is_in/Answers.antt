@@ -1,4 +1,3 @@
-use Rattle.std.proofs.Common.{rules}
 use Rattle.admission.proofs.Standing.{need-room, stamp-room, says-in}
 use Rattle.admission.proofs.summaries.is_in.Goals as goal
 

@@ -1,8 +1,7 @@
-use mathlib.Core.Path.{◌≡◌, refl, ap, sym, ◌∙◌}
-use Prim.Native.Nat.{◌≤◌, ◌<◌, ◌-◌, ◌+◌, ◌*◌}
+use mathlib.Core.Path.{◌≡◌, refl, ap, ◌∙◌}
+use Prim.Native.Nat.{◌+◌, ◌*◌}
 use native.Mathlib.Omega.{arith}
-use borrow.Author.Rules.{rules}
-use lib.ListN.{length, get_or, set, take, drop, length-set}
+use lib.ListN.{length, get_or, set, take, drop}
 use lib.Seq.{sets, length-sets}
 use Rattle.answer.specs.Picked.{width_in, picked_codes, picked_widths}
 use Rattle.answer.proofs.Picks.{picked-stored, widths-stored}

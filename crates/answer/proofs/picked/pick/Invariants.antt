@@ -1,11 +1,8 @@
-use mathlib.Core.Path.{◌≡◌, refl, ap, sym, ◌∙◌}
-use Prim.Native.Nat.{◌≤◌, ◌<◌, ◌-◌, ◌+◌, ◌*◌}
-use native.Mathlib.Omega.{arith}
-use borrow.Author.Rules.{rules}
-use lib.ListN.{length, get_or, set, take, drop, length-set}
-use lib.Seq.{sets, length-sets}
-use Rattle.answer.specs.Picked.{width_in, picked_codes, picked_widths}
-use Rattle.answer.proofs.Picks.{picked-stored, widths-stored}
+use mathlib.Core.Path.{◌≡◌}
+use Prim.Native.Nat.{◌≤◌, ◌-◌}
+use lib.ListN.{length}
+use lib.Seq.{sets}
+use Rattle.answer.specs.Picked.{picked_codes, picked_widths}
 use Rattle.answer.proofs.picked.pick.Given as goal
 
 -- the rows so far are picked

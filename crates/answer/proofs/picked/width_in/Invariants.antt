@@ -1,11 +1,6 @@
-use mathlib.Core.Path.{◌≡◌, refl, ap, sym, ◌∙◌}
-use Prim.Native.Nat.{◌≤◌, ◌<◌, ◌-◌, ◌+◌, ◌*◌}
-use native.Mathlib.Omega.{arith}
-use borrow.Author.Rules.{rules}
-use lib.ListN.{length, get_or, set, take, drop, length-set}
-use lib.Seq.{sets, length-sets}
-use Rattle.answer.specs.Picked.{width_in, picked_codes, picked_widths}
-use Rattle.answer.proofs.Picks.{width-ended, width-more, width-start, width-end}
+use mathlib.Core.Path.{◌≡◌}
+use Prim.Native.Nat.{◌≤◌, ◌-◌, ◌+◌, ◌*◌}
+use Rattle.answer.specs.Picked.{width_in}
 use Rattle.answer.proofs.picked.width_in.Given as goal
 
 -- what is left to look at gives the whole width

@@ -1,10 +1,7 @@
-use mathlib.Core.Path.{◌≡◌, refl, ap, sym, ◌∙◌}
-use Prim.Native.Nat.{◌≤◌, ◌-◌, ◌+◌, ◌*◌, ◌%◌}
-use native.Mathlib.Omega.{arith}
-use borrow.Author.Rules.{rules}
-use lib.ListN.{length, take, drop, get_or, set, length-set}
-use lib.Seq.{sets, length-sets}
-use Rattle.answer.specs.Bytes.{code_bytes, codes_bytes, row_bytes, rows_bytes}
+use mathlib.Core.Path.{ap, ◌∙◌}
+use lib.ListN.{length}
+use lib.Seq.{length-sets}
+use Rattle.answer.specs.Bytes.{row_bytes}
 use Rattle.answer.proofs.RuleStores.{row-stored}
 use Rattle.answer.proofs.rule_bytes.put_row.Goals as goal
 

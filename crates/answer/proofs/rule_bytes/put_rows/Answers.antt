@@ -1,10 +1,9 @@
-use mathlib.Core.Path.{◌≡◌, refl, ap, sym, ◌∙◌}
-use Prim.Native.Nat.{◌≤◌, ◌-◌, ◌+◌, ◌*◌, ◌%◌}
+use mathlib.Core.Path.{◌≡◌, refl, ap, ◌∙◌}
+use Prim.Native.Nat.{◌+◌}
 use native.Mathlib.Omega.{arith}
-use borrow.Author.Rules.{rules}
-use lib.ListN.{length, take, drop, get_or, set, length-set}
+use lib.ListN.{length, get_or}
 use lib.Seq.{sets, length-sets}
-use Rattle.answer.specs.Bytes.{code_bytes, codes_bytes, row_bytes, rows_bytes}
+use Rattle.answer.specs.Bytes.{row_bytes, rows_bytes}
 use Rattle.answer.proofs.RuleStores.{rows-stored, rows-place}
 use Rattle.answer.proofs.rule_bytes.put_rows.Goals as goal
 

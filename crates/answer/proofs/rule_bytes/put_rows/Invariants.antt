@@ -1,11 +1,8 @@
-use mathlib.Core.Path.{◌≡◌, refl, ap, sym, ◌∙◌}
-use Prim.Native.Nat.{◌≤◌, ◌-◌, ◌+◌, ◌*◌, ◌%◌}
-use native.Mathlib.Omega.{arith}
-use borrow.Author.Rules.{rules}
-use lib.ListN.{length, take, drop, get_or, set, length-set}
-use lib.Seq.{sets, length-sets}
-use Rattle.answer.specs.Bytes.{code_bytes, codes_bytes, row_bytes, rows_bytes}
-use Rattle.answer.proofs.RuleStores.{rows-stored, rows-place}
+use mathlib.Core.Path.{◌≡◌}
+use Prim.Native.Nat.{◌≤◌, ◌-◌, ◌+◌, ◌*◌}
+use lib.ListN.{length}
+use lib.Seq.{sets}
+use Rattle.answer.specs.Bytes.{rows_bytes}
 use Rattle.answer.proofs.rule_bytes.put_rows.Given as goal
 
 -- the rows so far are stored, and the place behind them is known

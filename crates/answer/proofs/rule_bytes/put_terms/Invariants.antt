@@ -1,11 +1,8 @@
-use mathlib.Core.Path.{◌≡◌, refl, ap, sym, ◌∙◌}
-use Prim.Native.Nat.{◌≤◌, ◌-◌, ◌+◌, ◌*◌}
-use native.Mathlib.Omega.{arith}
-use borrow.Author.Rules.{rules}
-use lib.ListN.{length, take, drop, get_or}
-use lib.Seq.{sets, length-sets}
-use Rattle.answer.specs.Bytes.{code_bytes, codes_bytes}
-use Rattle.answer.proofs.RuleStores.{term-stored, terms-done}
+use mathlib.Core.Path.{◌≡◌}
+use Prim.Native.Nat.{◌≤◌, ◌-◌}
+use lib.ListN.{length, take, drop}
+use lib.Seq.{sets}
+use Rattle.answer.specs.Bytes.{codes_bytes}
 use Rattle.answer.proofs.rule_bytes.put_terms.Given as goal
 
 -- the terms so far are stored

@@ -1,8 +1,5 @@
-use borrow.Author.Rules.{rules}
-use Prim.Native.Nat.{◌≤◌, ◌-◌}
 use native.Mathlib.Omega.{arith}
-use Rattle.spec.proofs.Lists.Counted.{counted}
-use Rattle.book_codes.proofs.Stored.{NumbersStored, store-starts, store_long, store_goes, store-ends, counted-long, counted-up}
+use Rattle.book_codes.proofs.Stored.{store-starts, store_long, store_goes, store-ends, counted-long, counted-up}
 use Rattle.book_codes.proofs.marks.count_up.Goals as goal
 
 pub loop-k-init : goal.loop-k-init

@@ -1,8 +1,6 @@
-use borrow.Author.Rules.{rules}
 use Prim.Native.Nat.{◌≤◌, ◌-◌}
-use native.Mathlib.Omega.{arith}
 use Rattle.spec.proofs.Lists.Counted.{counted}
-use Rattle.book_codes.proofs.Stored.{NumbersStored, store-starts, store_long, store_goes, store-ends, counted-long, counted-up}
+use Rattle.book_codes.proofs.Stored.{NumbersStored}
 use Rattle.book_codes.proofs.marks.count_up.Given as goal
 
 abbrev pub invariant-loop-k : goal.invariant-loop-k

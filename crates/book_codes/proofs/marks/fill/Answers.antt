@@ -1,8 +1,6 @@
-use borrow.Author.Rules.{rules}
-use Prim.Native.Nat.{◌≤◌, ◌-◌}
 use native.Mathlib.Omega.{arith}
-use lib.ListN.{replicate, length-replicate}
-use Rattle.book_codes.proofs.Stored.{NumbersStored, store-starts, store_long, store_goes, store-ends, filled}
+use lib.ListN.{length-replicate}
+use Rattle.book_codes.proofs.Stored.{store-starts, store_long, store_goes, store-ends, filled}
 use Rattle.book_codes.proofs.marks.fill.Goals as goal
 
 pub loop-k-init : goal.loop-k-init

@@ -1,8 +1,6 @@
-use borrow.Author.Rules.{rules}
 use Prim.Native.Nat.{◌≤◌, ◌-◌}
-use native.Mathlib.Omega.{arith}
-use lib.ListN.{replicate, length-replicate}
-use Rattle.book_codes.proofs.Stored.{NumbersStored, store-starts, store_long, store_goes, store-ends, filled}
+use lib.ListN.{replicate}
+use Rattle.book_codes.proofs.Stored.{NumbersStored}
 use Rattle.book_codes.proofs.marks.fill.Given as goal
 
 abbrev pub invariant-loop-k : goal.invariant-loop-k

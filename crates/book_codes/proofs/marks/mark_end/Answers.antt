@@ -1,4 +1,3 @@
-use borrow.Author.Rules.{rules}
 use Rattle.book_codes.proofs.Stored.{end-stored}
 use Rattle.book_codes.proofs.marks.mark_end.Goals as goal
 

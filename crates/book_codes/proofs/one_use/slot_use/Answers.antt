@@ -1,4 +1,3 @@
-use borrow.Author.Rules.{rules}
 use native.Mathlib.Omega.{arith}
 use Rattle.book_codes.proofs.RowUse.{first_part, nine-there, use-for, one-use}
 use Rattle.book_codes.proofs.one_use.slot_use.Goals as goal

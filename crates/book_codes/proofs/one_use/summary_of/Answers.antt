@@ -1,4 +1,3 @@
-use borrow.Author.Rules.{rules}
 use native.Mathlib.Omega.{arith}
 use Rattle.book_codes.proofs.RowUse.{summary-part, summary-few, nine-there}
 use Rattle.book_codes.proofs.one_use.summary_of.Goals as goal

@@ -1,4 +1,3 @@
-use borrow.Author.Rules.{rules}
 use Rattle.book_codes.proofs.RowUse.{laid, one-count}
 use mathlib.Core.Path.{refl}
 use Rattle.book_codes.proofs.one_use.use_count.Goals as goal

@@ -1,4 +1,3 @@
-use borrow.Author.Rules.{rules}
 use Rattle.book_codes.proofs.RowUse.{first_part, laid-for, one-widths}
 use Rattle.book_codes.proofs.one_use.use_widths.Goals as goal
 

@@ -1,6 +1,5 @@
 use native.Mathlib.Omega.{arith}
 use Rattle.book_codes.proofs.Laid.{first_part, question-part, laid-for, source_is}
-use borrow.Author.Rules.{rules}
 use Rattle.book_codes.proofs.question.question_source.Goals as goal
 
 pub part_of-requires : goal.part_of-requires

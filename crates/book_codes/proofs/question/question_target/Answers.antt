@@ -1,6 +1,5 @@
 use Rattle.book_codes.proofs.Laid.{first_part, question-part, laid-for, target_is}
 use native.Mathlib.Omega.{arith}
-use borrow.Author.Rules.{rules}
 use Rattle.book_codes.proofs.question.question_target.Goals as goal
 
 pub part_of-requires : goal.part_of-requires

@@ -1,14 +1,7 @@
-use borrow.Author.Rules.{rules}
 use Prim.Native.Nat.{◌≤◌, ◌-◌}
-use mathlib.Core.Path.{refl}
-use native.Mathlib.Omega.{arith}
-use lib.ListN.{length, replicate, length-replicate, length-take, length-drop}
-use Rattle.spec.proofs.Lists.Counted.{counted}
 use Rattle.codes.specs.Code.{own_code}
-use Rattle.codes.proofs.Padded.{codes-length}
-use Rattle.book_codes.proofs.Stored.{counted-long}
-use Rattle.book_codes.proofs.Spread.{codes_each, own_each, inside_each, codes-spread, owners-spread, insides-spread}
-use Rattle.book_codes.proofs.Growing.{GoalsReached, RowsWritten, row-there, rows-room, reach-starts, so-starts, use-goals, codes-added, numbers-added, reach-goes, so-goes, reach-ends, so-ends}
+use Rattle.book_codes.proofs.Spread.{codes_each, own_each, inside_each}
+use Rattle.book_codes.proofs.Growing.{GoalsReached, RowsWritten}
 use Rattle.book_codes.proofs.uses.expand.Given as goal
 
 abbrev pub invariant-loop-r : goal.invariant-loop-r

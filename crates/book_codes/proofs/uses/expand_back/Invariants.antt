@@ -1,14 +1,7 @@
-use borrow.Author.Rules.{rules}
 use Prim.Native.Nat.{◌≤◌, ◌-◌}
-use mathlib.Core.Path.{refl}
-use native.Mathlib.Omega.{arith}
-use lib.ListN.{length, length-take, length-drop}
 use Rattle.codes.specs.Code.{own_slot}
-use Rattle.search_meaning.specs.Uses.{end_of}
-use Rattle.search_meaning.proofs.UseOf.{end-long}
-use Rattle.codes.proofs.Padded.{codes-length, widths-length}
-use Rattle.book_codes.proofs.Spread.{codes_each, widths_each, end_each, codes-spread, widths-spread, ends-spread}
-use Rattle.book_codes.proofs.Growing.{GoalsReached, RowsWritten, row-there, rows-room, reach-starts, so-starts, use-goals, codes-added, widths-added, numbers-added, reach-goes, so-goes, reach-ends, so-ends}
+use Rattle.book_codes.proofs.Spread.{codes_each, widths_each, end_each}
+use Rattle.book_codes.proofs.Growing.{GoalsReached, RowsWritten}
 use Rattle.book_codes.proofs.uses.expand_back.Given as goal
 
 abbrev pub invariant-loop-r : goal.invariant-loop-r

@@ -1,10 +1,8 @@
-use borrow.Author.Rules.{rules}
-use Prim.Native.Nat.{◌≤◌, ◌-◌}
 use mathlib.Core.Path.{◌∙◌}
 use native.Mathlib.Omega.{arith}
 use lib.ListN.{length-set}
-use Rattle.book_codes.proofs.Growing.{GoalsReached, row-there, rows-room, reach-starts, reach-goes}
-use Rattle.book_codes.proofs.Beginnings.{Begun, count-goals, begun-starts, begun-goes, begun-ends}
+use Rattle.book_codes.proofs.Growing.{row-there, rows-room, reach-starts, reach-goes}
+use Rattle.book_codes.proofs.Beginnings.{count-goals, begun-starts, begun-goes, begun-ends}
 use Rattle.book_codes.proofs.uses.use_starts.Goals as goal
 
 pub loop-r-init : goal.loop-r-init

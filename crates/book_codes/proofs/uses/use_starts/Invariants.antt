@@ -1,10 +1,6 @@
-use borrow.Author.Rules.{rules}
 use Prim.Native.Nat.{◌≤◌, ◌-◌}
-use mathlib.Core.Path.{◌∙◌}
-use native.Mathlib.Omega.{arith}
-use lib.ListN.{length-set}
-use Rattle.book_codes.proofs.Growing.{GoalsReached, row-there, rows-room, reach-starts, reach-goes}
-use Rattle.book_codes.proofs.Beginnings.{Begun, count-goals, begun-starts, begun-goes, begun-ends}
+use Rattle.book_codes.proofs.Growing.{GoalsReached}
+use Rattle.book_codes.proofs.Beginnings.{Begun}
 use Rattle.book_codes.proofs.uses.use_starts.Given as goal
 
 abbrev pub invariant-loop-r : goal.invariant-loop-r

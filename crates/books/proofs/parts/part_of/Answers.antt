@@ -1,6 +1,4 @@
-use mathlib.Core.Path.{◌≡◌}
 use native.Mathlib.Omega.{arith}
-use borrow.Author.Rules.{rules}
 use Rattle.spec.proofs.Bytes.Within.{loads-room, part-within, part-lent}
 use Rattle.books.proofs.parts.part_of.Goals as goal
 

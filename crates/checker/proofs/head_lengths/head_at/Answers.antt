@@ -1,6 +1,5 @@
 use native.Mathlib.Omega.{arith}
 use Rattle.checker.proofs.LengthLaws.{summary-there, summary-laid, head-short, head-is}
-use borrow.Author.Rules.{rules}
 use Rattle.checker.proofs.head_lengths.head_at.Goals as goal
 
 pub part_of-requires : goal.part_of-requires

@@ -1,9 +1,6 @@
-use borrow.Author.Rules.{rules}
-use mathlib.Core.Path.{◌≡◌, refl}
-use lib.ListN.{length, length-set}
-use Prim.Native.Nat.{◌≤◌, ◌-◌}
+use mathlib.Core.Path.{refl}
+use lib.ListN.{length-set}
 use native.Mathlib.Omega.{arith}
-use Rattle.checker.specs.Lengths.{HeadsTo}
 use Rattle.checker.proofs.LengthLaws.{count_room, heads-start, count-few, next-summary, heads-go, heads-end}
 use Rattle.checker.proofs.head_lengths.head_lengths.Goals as goal
 

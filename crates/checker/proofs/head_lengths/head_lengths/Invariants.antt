@@ -1,10 +1,7 @@
-use borrow.Author.Rules.{rules}
-use mathlib.Core.Path.{◌≡◌, refl}
-use lib.ListN.{length, length-set}
+use mathlib.Core.Path.{◌≡◌}
+use lib.ListN.{length}
 use Prim.Native.Nat.{◌≤◌, ◌-◌}
-use native.Mathlib.Omega.{arith}
 use Rattle.checker.specs.Lengths.{HeadsTo}
-use Rattle.checker.proofs.LengthLaws.{count_room, heads-start, count-few, next-summary, heads-go, heads-end}
 use Rattle.checker.proofs.head_lengths.head_lengths.Given as goal
 
 abbrev pub invariant-loop-i : goal.invariant-loop-i

@@ -1,7 +1,6 @@
 use mathlib.Core.Path.{sym}
 use native.Mathlib.Omega.{arith}
 use Rattle.checker.proofs.LengthLaws.{count_room, count-few, lent-long, heads-are}
-use borrow.Author.Rules.{rules}
 use Rattle.checker.proofs.proposal.propose.Goals as goal
 
 pub count_of-n-requires : goal.count_of-n-requires

@@ -1,8 +1,6 @@
-use borrow.Author.Tests.{not-true, not-false}
 use Rattle.book_codes.proofs.Laid.{question-part, laid}
 use Rattle.checker.proofs.LayoutLaws.{laid-some}
 use Rattle.checker.proofs.RowLaws.{none-laid, none-headed, rows-given}
-use borrow.Author.Rules.{rules}
 use Rattle.checker.proofs.proposal.propose_over.Goals as goal
 
 pub returns-then-not-is_laid_out : goal.returns-then-not-is_laid_out

@@ -1,6 +1,5 @@
 use native.Mathlib.Omega.{arith}
 use Rattle.checker.proofs.RowLaws.{rows-room, codes-there, rows-proposed, rows-refused}
-use borrow.Author.Rules.{rules}
 use Rattle.checker.proofs.proposal.read_rows.Goals as goal
 
 pub term_codes-count-requires : goal.term_codes-count-requires

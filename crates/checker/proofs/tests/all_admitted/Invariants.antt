@@ -1,8 +1,5 @@
-use borrow.Author.Rules.{rules}
 use Prim.Native.Nat.{◌≤◌, ◌-◌}
-use native.Mathlib.Omega.{arith}
-use borrow.Author.Tests.{not-true, not-false}
-use Rattle.checker.proofs.AdmissionLaws.{AdmittedTo, admitted-start, admitted-go, admitted-not, admitted-all}
+use Rattle.checker.proofs.AdmissionLaws.{AdmittedTo}
 use Rattle.checker.proofs.tests.all_admitted.Given as goal
 
 abbrev pub invariant-loop-i : goal.invariant-loop-i

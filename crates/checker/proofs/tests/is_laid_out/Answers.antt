@@ -1,5 +1,4 @@
 use Rattle.checker.proofs.LayoutLaws.{laid_by}
-use borrow.Author.Rules.{rules}
 use Rattle.checker.proofs.tests.is_laid_out.Goals as goal
 
 pub returns-in-Sound : goal.returns-in-Sound

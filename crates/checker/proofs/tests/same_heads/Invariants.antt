@@ -1,10 +1,6 @@
-use borrow.Author.Rules.{rules}
 use mathlib.Core.Path.{◌≡◌}
 use Prim.Native.Nat.{ℕ, ◌<◌, ◌≤◌, ◌-◌}
-use native.Mathlib.Omega.{arith}
 use lib.ListN.{get_or}
-use borrow.Author.Count.{below_more}
-use Rattle.checker.proofs.HeadLaws.{heads-same, heads-differ}
 use Rattle.checker.proofs.tests.same_heads.Given as goal
 
 abbrev pub invariant-loop-k : goal.invariant-loop-k

@@ -1,4 +1,3 @@
-use borrow.Author.Rules.{rules}
 use native.Mathlib.Omega.{arith}
 use Rattle.spec.specs.Contents.{count}
 use Rattle.contents.proofs.fields.count_of.Goals as goal

@@ -1,4 +1,3 @@
-use borrow.Author.Rules.{rules}
 use native.Mathlib.Omega.{arith}
 use Rattle.spec.specs.BookLayout.{entries}
 use Rattle.contents.proofs.fields.entries_of.Goals as goal

@@ -1,4 +1,3 @@
-use borrow.Author.Rules.{rules}
 use native.Mathlib.Omega.{arith}
 use Rattle.spec.specs.Contents.{length_at}
 use Rattle.contents.proofs.fields.length_at.Goals as goal

@@ -1,4 +1,3 @@
-use borrow.Author.Rules.{rules}
 use native.Mathlib.Omega.{arith}
 use Rattle.spec.specs.Contents.{offset_at}
 use Rattle.contents.proofs.fields.offset_at.Goals as goal

@@ -1,10 +1,8 @@
-use borrow.Author.Rules.{rules}
 use mathlib.Core.Path.{◌≡◌}
-use Prim.Native.Nat.{◌-◌, ◌<◌, ◌≤◌}
 use native.Mathlib.Omega.{arith}
 use Rattle.spec.specs.BookLayout.{entries}
-use Rattle.spec.specs.Contents.{offset_at, begin_at}
-use Rattle.contents.proofs.Entries.EntryWalk.{Followed, followed-none, followed-more, begin-more, start, cut, gap, no_end, whole}
+use Rattle.spec.specs.Contents.{offset_at}
+use Rattle.contents.proofs.Entries.EntryWalk.{followed-none, followed-more, begin-more, start, cut, gap, no_end, whole}
 use Rattle.contents.proofs.gaps.no_gaps.Goals as goal
 
 pub overflow_mul-begin : goal.overflow_mul-begin

@@ -1,10 +1,7 @@
-use borrow.Author.Rules.{rules}
 use mathlib.Core.Path.{◌≡◌}
 use Prim.Native.Nat.{◌-◌, ◌<◌, ◌≤◌}
-use native.Mathlib.Omega.{arith}
-use Rattle.spec.specs.BookLayout.{entries}
-use Rattle.spec.specs.Contents.{offset_at, begin_at}
-use Rattle.contents.proofs.Entries.EntryWalk.{Followed, followed-none, followed-more, begin-more, start, cut, gap, no_end, whole}
+use Rattle.spec.specs.Contents.{begin_at}
+use Rattle.contents.proofs.Entries.EntryWalk.{Followed}
 use Rattle.contents.proofs.gaps.no_gaps.Given as goal
 
 -- Each entry passed begins where it has to, and `begin` is where entry i has to.

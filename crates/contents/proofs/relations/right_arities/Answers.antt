@@ -1,7 +1,5 @@
-use borrow.Author.Rules.{rules}
-use Prim.Native.Nat.{◌-◌, ◌≤◌}
 use native.Mathlib.Omega.{arith}
-use Rattle.contents.proofs.Arities.ArityWalk.{AritiesInRange, range_none, range-more, in-range, arity-at}
+use Rattle.contents.proofs.Arities.ArityWalk.{range_none, range-more, in-range, arity-at}
 use Rattle.contents.proofs.relations.right_arities.Goals as goal
 
 pub returns-then-many-lt1 : goal.returns-then-many-lt1

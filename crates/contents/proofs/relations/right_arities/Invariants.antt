@@ -1,7 +1,5 @@
-use borrow.Author.Rules.{rules}
 use Prim.Native.Nat.{◌-◌, ◌≤◌}
-use native.Mathlib.Omega.{arith}
-use Rattle.contents.proofs.Arities.ArityWalk.{AritiesInRange, range_none, range-more, in-range, arity-at}
+use Rattle.contents.proofs.Arities.ArityWalk.{AritiesInRange}
 use Rattle.contents.proofs.relations.right_arities.Given as goal
 
 -- Each byte passed is an arity.

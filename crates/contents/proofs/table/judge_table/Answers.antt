@@ -1,5 +1,4 @@
 use Rattle.contents.proofs.Records.Judged.{too_small, passed_on}
-use borrow.Author.Rules.{rules}
 use Rattle.contents.proofs.table.judge_table.Goals as goal
 
 pub returns-then-room-lt-TABLE_ROOM : goal.returns-then-room-lt-TABLE_ROOM

@@ -1,4 +1,4 @@
-use Rattle.std.proofs.Common.{◌≡◌, ℕ, length, ◌+◌, ◌≤◌, ap, sym, ◌∙◌, arith, add-one}
+use Rattle.std.proofs.Common.{◌≡◌, ℕ, length, ap, sym, ◌∙◌, arith, add-one}
 use mathlib.Core.Path.{refl, subst}
 use Prim.Native.Nat.{◌<◌, ◌*◌}
 use mathlib.Core.List.{List}
@@ -44,9 +44,10 @@ pub loop-i-preserved : goal.loop-i-preserved
 loop-i-preserved c =
     let book = c.args.book.now in
     let table = c.args.table.now in
-    let i = c.loop-i.i in
-    (omega arith,
-     ap (λ (t : List Entry). set t i c.record_at.result) c.loop-i.invariant.1 ∙ filled_more book i table _ c.record_at.ensures ∙ ap (λ (k : ℕ). filled book k table) (sym (add-one i)))
+    let i = c.loop-i.i in (
+      omega arith,
+      ap (λ (t : List Entry). set t i c.record_at.result) c.loop-i.invariant.1 ∙ filled_more book i table _ c.record_at.ensures ∙ ap (λ (k : ℕ). filled book k table) (sym (add-one i)),
+    )
 
 pub returns : goal.returns
 returns c =

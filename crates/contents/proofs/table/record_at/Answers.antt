@@ -1,5 +1,3 @@
-use borrow.Author.Rules.{rules}
-use native.Mathlib.Omega.{arith}
 use Rattle.contents.proofs.Records.Filling.{record_is}
 use Rattle.contents.proofs.table.record_at.Goals as goal
 

@@ -1,6 +1,5 @@
 use Rattle.first_shortest.proofs.Tests.{posed-few}
 use Rattle.first_shortest.proofs.Dropped.{pruned-enough}
-use borrow.Author.Rules.{rules}
 use Rattle.first_shortest.proofs.feasibility.can.Goals as goal
 
 pub enough-requires : goal.enough-requires

@@ -1,6 +1,4 @@
 use native.Mathlib.Omega.{arith}
-use Prim.Native.Nat.{◌≤◌, ◌-◌}
-use Rattle.first_shortest.specs.Pruning.{Pruned}
 use Rattle.first_shortest.proofs.Dropped.{pruned-start, pruned-next}
 use Rattle.first_shortest.proofs.feasibility.pruned.Goals as goal
 

@@ -1,7 +1,5 @@
-use native.Mathlib.Omega.{arith}
-use Prim.Native.Nat.{◌≤◌, ◌-◌}
+use Prim.Native.Nat.{◌-◌}
 use Rattle.first_shortest.specs.Pruning.{Pruned}
-use Rattle.first_shortest.proofs.Dropped.{pruned-start, pruned-next}
 use Rattle.first_shortest.proofs.feasibility.pruned.Given as goal
 
 abbrev pub invariant-loop-row : goal.invariant-loop-row

@@ -1,5 +1,4 @@
 use Rattle.first_shortest.proofs.Dropped.{spared-dropped, spared-kept}
-use borrow.Author.Rules.{rules}
 use Rattle.first_shortest.proofs.feasibility.spared.Goals as goal
 
 pub returns-then-meets : goal.returns-then-meets

@@ -1,4 +1,3 @@
-use borrow.Author.Rules.{rules}
 use Rattle.lookahead.proofs.reasons.blamed.Goals as goal
 
 pub returns : goal.returns

@@ -1,4 +1,3 @@
-use borrow.Author.Rules.{rules}
 use mathlib.Core.Path.{refl, sym, ◌∙◌}
 use Rattle.lookahead.proofs.Judging.{entry-as, enter-free, enter-none, enter-paid}
 use Rattle.lookahead.proofs.reasons.enters.Goals as goal

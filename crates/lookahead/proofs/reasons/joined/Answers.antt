@@ -1,4 +1,3 @@
-use borrow.Author.Rules.{rules}
 use mathlib.Core.Path.{sym, ap}
 use mathlib.Core.Bool.{◌||◌}
 use Rattle.lookahead.proofs.Judging.{joining-short}

@@ -1,4 +1,3 @@
-use borrow.Author.Rules.{rules}
 use Rattle.lookahead.proofs.Judging.{seeing-same, seeing-cut}
 use Rattle.lookahead.proofs.reasons.seen.Goals as goal
 

@@ -1,4 +1,3 @@
-use borrow.Author.Rules.{rules}
 use Rattle.lookahead.proofs.Judging.{settled-found, settled-meets, settled-free, settled-rows}
 use Rattle.lookahead.proofs.reasons.settled.Goals as goal
 

@@ -1,7 +1,6 @@
 use mathlib.Core.Path.{sym}
 use native.Mathlib.Omega.{arith}
 use Rattle.row_choice.proofs.PairSteps.{pair-goals, pair-targets, pair-lasts, pair-own, pair-uses, pair-tells, source-some, pair-apart, told-no}
-use borrow.Author.Rules.{rules}
 use Rattle.row_choice.proofs.dominators.goes_into.Goals as goal
 
 pub bounds-source-0 : goal.bounds-source-0

@@ -1,7 +1,5 @@
-use mathlib.Core.Path.{◌≡◌, refl}
-use Prim.Native.Nat.{ℕ, ◌-◌, ◌*◌, ◌/◌, ◌<◌, ◌≤◌}
+use mathlib.Core.Path.{refl}
 use native.Mathlib.Omega.{arith}
-use lib.ListN.{length, get_or}
 use Rattle.row_choice.proofs.PairSteps.{none_yet}
 use Rattle.spec.proofs.Lists.Tests.{true-not-false}
 use Rattle.row_choice.proofs.dominators.has_relation.Goals as goal

@@ -1,9 +1,6 @@
-use mathlib.Core.Path.{◌≡◌, refl}
+use mathlib.Core.Path.{◌≡◌}
 use Prim.Native.Nat.{ℕ, ◌-◌, ◌*◌, ◌/◌, ◌<◌, ◌≤◌}
-use native.Mathlib.Omega.{arith}
 use lib.ListN.{length, get_or}
-use Rattle.row_choice.proofs.PairSteps.{none_yet}
-use Rattle.spec.proofs.Lists.Tests.{true-not-false}
 use Rattle.row_choice.proofs.dominators.has_relation.Given as goal
 
 -- none of the first k subgoals is of the relation

@@ -1,9 +1,6 @@
-use borrow.Author.Rules.{rules}
-use Prim.Native.Nat.{◌≤◌, ◌-◌}
 use mathlib.Core.Path.{◌∙◌}
-use mathlib.Core.Logic.{⊎_elim}
 use native.Mathlib.Omega.{arith}
-use Rattle.row_choice.proofs.AgainstSteps.{RowsCompared, against-few, in_order, part-inside, part_small, some_pair, passed-starts, passed-adds, passed-skips, passed-ends}
+use Rattle.row_choice.proofs.AgainstSteps.{against-few, in_order, part-inside, part_small, some_pair, passed-starts, passed-adds, passed-skips, passed-ends}
 use Rattle.row_choice.proofs.dominators.those_over.Goals as goal
 use Rattle.row_choice.proofs.dominators.those_over.Goals.{then-goes_into, else-goes_into}
 
@@ -61,8 +58,8 @@ loop-d-preserved c =
     let h = c.loop-d-test.true in
     let told = c.goes_into.ensures in
     elim c.if-goes_into.branch [
-      then-goes_into w ↦ (omega arith, passed-adds h inv.1 w.if-goes_into.true told (w.set-is ∙ w.add-set.ensures))
-    | else-goes_into w ↦ (omega arith, passed-skips h inv.1 w.if-goes_into.false told w.set-is)
+      | then-goes_into w ↦ (omega arith, passed-adds h inv.1 w.if-goes_into.true told (w.set-is ∙ w.add-set.ensures))
+      | else-goes_into w ↦ (omega arith, passed-skips h inv.1 w.if-goes_into.false told w.set-is)
     ]
 
 pub returns : goal.returns

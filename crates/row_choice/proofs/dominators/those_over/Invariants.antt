@@ -1,9 +1,5 @@
-use borrow.Author.Rules.{rules}
 use Prim.Native.Nat.{◌≤◌, ◌-◌}
-use mathlib.Core.Path.{◌∙◌}
-use mathlib.Core.Logic.{⊎_elim}
-use native.Mathlib.Omega.{arith}
-use Rattle.row_choice.proofs.AgainstSteps.{RowsCompared, against-few, in_order, part-inside, part_small, some_pair, passed-starts, passed-adds, passed-skips, passed-ends}
+use Rattle.row_choice.proofs.AgainstSteps.{RowsCompared}
 use Rattle.row_choice.proofs.dominators.those_over.Given as goal
 
 abbrev pub invariant-loop-d : goal.invariant-loop-d

@@ -1,7 +1,5 @@
-use borrow.Author.Rules.{rules}
-use Prim.Native.Nat.{◌≤◌, ◌-◌}
 use native.Mathlib.Omega.{arith}
-use Rattle.row_list.proofs.SlotSteps.{some-laid, SlotsSoFar, slots-start, heads-few, slot-room, slots-go, slots_end}
+use Rattle.row_list.proofs.SlotSteps.{some-laid, slots-start, heads-few, slot-room, slots-go, slots_end}
 use Rattle.row_list.proofs.tasks.head_slots.Goals as goal
 
 pub head_count-heads-requires : goal.head_count-heads-requires

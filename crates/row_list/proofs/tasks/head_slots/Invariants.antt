@@ -1,7 +1,5 @@
-use borrow.Author.Rules.{rules}
 use Prim.Native.Nat.{◌≤◌, ◌-◌}
-use native.Mathlib.Omega.{arith}
-use Rattle.row_list.proofs.SlotSteps.{some-laid, SlotsSoFar, slots-start, heads-few, slot-room, slots-go, slots_end}
+use Rattle.row_list.proofs.SlotSteps.{SlotsSoFar}
 use Rattle.row_list.proofs.tasks.head_slots.Given as goal
 
 abbrev pub invariant-loop-i : goal.invariant-loop-i

@@ -1,10 +1,5 @@
-use borrow.Author.Rules.{rules}
-use mathlib.Core.Path.{◌≡◌}
-use Prim.Native.Nat.{◌≤◌, ◌-◌}
 use native.Mathlib.Omega.{arith}
-use lib.ListN.{length, take, length-set}
-use lib.Seq.{sets}
-use Rattle.row_list.specs.Alone.{alone_codes}
+use lib.ListN.{length-set}
 use Rattle.row_list.proofs.AloneLaws.{alone-goes, alone-ends}
 use Rattle.row_list.proofs.tasks.put_alone.Goals as goal
 

@@ -1,11 +1,8 @@
-use borrow.Author.Rules.{rules}
 use mathlib.Core.Path.{◌≡◌}
 use Prim.Native.Nat.{◌≤◌, ◌-◌}
-use native.Mathlib.Omega.{arith}
-use lib.ListN.{length, take, length-set}
+use lib.ListN.{length, take}
 use lib.Seq.{sets}
 use Rattle.row_list.specs.Alone.{alone_codes}
-use Rattle.row_list.proofs.AloneLaws.{alone-goes, alone-ends}
 use Rattle.row_list.proofs.tasks.put_alone.Given as goal
 
 abbrev pub invariant-loop-k : goal.invariant-loop-k

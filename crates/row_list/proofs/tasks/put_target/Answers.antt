@@ -1,4 +1,3 @@
-use borrow.Author.Rules.{rules}
 use mathlib.Core.Path.{refl, sym}
 use native.Mathlib.Omega.{arith}
 use Rattle.row_list.proofs.TargetSteps.{terms-few, terms-long, shown-long, terms-room, target-part, target_room, target-goals, target-codes, widths-room}

@@ -1,4 +1,3 @@
-use borrow.Author.Rules.{rules}
 use Rattle.rule_codes.specs.Codes.{tabled, based}
 use Rattle.rule_codes.proofs.CodeLaws.{tabled-based, recoded}
 use Rattle.rule_codes.proofs.bodies.body_codes.Goals as goal

@@ -1,4 +1,3 @@
-use borrow.Author.Rules.{rules}
 use Rattle.codes.specs.Code.{variable_tag, term_code}
 use Rattle.rule_codes.specs.Codes.{based}
 use Rattle.rule_codes.proofs.CodeLaws.{based-term, recoded}

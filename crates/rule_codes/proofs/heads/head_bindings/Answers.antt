@@ -1,7 +1,5 @@
-use borrow.Author.Rules.{rules}
-use Prim.Native.Nat.{◌≤◌, ◌-◌}
 use native.Mathlib.Omega.{arith}
-use Rattle.rule_codes.proofs.HeadSteps.{BoundSoFar, bound-starts, bound-variable, bound-constant, bound-ends, term-room, variable-small}
+use Rattle.rule_codes.proofs.HeadSteps.{bound-starts, bound-variable, bound-constant, bound-ends, term-room, variable-small}
 use Rattle.rule_codes.proofs.heads.head_bindings.Goals as goal
 
 pub loop-next-init : goal.loop-next-init

@@ -1,7 +1,5 @@
-use borrow.Author.Rules.{rules}
 use Prim.Native.Nat.{◌≤◌, ◌-◌}
-use native.Mathlib.Omega.{arith}
-use Rattle.rule_codes.proofs.HeadSteps.{BoundSoFar, bound-starts, bound-variable, bound-constant, bound-ends, term-room, variable-small}
+use Rattle.rule_codes.proofs.HeadSteps.{BoundSoFar}
 use Rattle.rule_codes.proofs.heads.head_bindings.Given as goal
 
 abbrev pub invariant-loop-next : goal.invariant-loop-next

@@ -1,9 +1,7 @@
-use borrow.Author.Rules.{rules}
-use Prim.Native.Nat.{◌≤◌, ◌-◌}
 use mathlib.Core.Path.{refl}
 use native.Mathlib.Omega.{arith}
 use Rattle.rule_codes.proofs.HeadSteps.{head-there, head-end}
-use Rattle.rule_codes.proofs.NineSteps.{TermsStored, terms-go}
+use Rattle.rule_codes.proofs.NineSteps.{terms-go}
 use Rattle.rule_codes.proofs.heads.head_codes.Goals as goal
 
 pub padded_at-requires : goal.padded_at-requires

@@ -1,9 +1,5 @@
-use borrow.Author.Rules.{rules}
 use Prim.Native.Nat.{◌≤◌, ◌-◌}
-use mathlib.Core.Path.{refl}
-use native.Mathlib.Omega.{arith}
-use Rattle.rule_codes.proofs.HeadSteps.{head-there, head-end}
-use Rattle.rule_codes.proofs.NineSteps.{TermsStored, terms-go}
+use Rattle.rule_codes.proofs.NineSteps.{TermsStored}
 use Rattle.rule_codes.proofs.heads.head_codes.Given as goal
 
 abbrev pub invariant-loop-k : goal.invariant-loop-k

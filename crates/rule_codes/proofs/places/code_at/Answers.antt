@@ -1,4 +1,3 @@
-use borrow.Author.Rules.{rules}
 use Rattle.rule_codes.proofs.TermSteps.{constant, variable, below-32}
 use Rattle.rule_codes.proofs.places.code_at.Goals as goal
 

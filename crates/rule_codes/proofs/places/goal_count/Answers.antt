@@ -1,4 +1,3 @@
-use borrow.Author.Rules.{rules}
 use native.Mathlib.Omega.{arith}
 use Rattle.rule_codes.proofs.Counts.{two-counts, goals-counted}
 use Rattle.rule_codes.proofs.places.goal_count.Goals as goal

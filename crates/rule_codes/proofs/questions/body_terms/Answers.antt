@@ -1,4 +1,3 @@
-use borrow.Author.Rules.{rules}
 use mathlib.Core.Path.{refl, sym}
 use native.Mathlib.Omega.{arith}
 use Rattle.rule_codes.proofs.QuestionTerms.{question-room, used-few, used-there, used-long, question-terms}

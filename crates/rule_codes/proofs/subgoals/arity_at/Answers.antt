@@ -1,4 +1,3 @@
-use borrow.Author.Rules.{rules}
 use mathlib.Core.Path.{◌∙◌, ap}
 use lib.ListN.{get_or}
 use Rattle.rule_codes.proofs.subgoals.arity_at.Goals as goal

@@ -1,9 +1,7 @@
-use borrow.Author.Rules.{rules}
 use lib.ListN.{length-set}
-use Prim.Native.Nat.{◌+◌, ◌≤◌, ◌-◌}
 use mathlib.Core.Path.{refl}
 use native.Mathlib.Omega.{arith}
-use Rattle.rule_codes.proofs.NineSteps.{TermsStored, terms-start, terms-go, nine-end}
+use Rattle.rule_codes.proofs.NineSteps.{terms-start, terms-go, nine-end}
 use Rattle.rule_codes.proofs.subgoals.put_subgoal.Goals as goal
 
 pub loop-k-init : goal.loop-k-init

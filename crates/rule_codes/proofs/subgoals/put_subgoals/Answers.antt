@@ -1,8 +1,6 @@
-use borrow.Author.Rules.{rules}
-use Prim.Native.Nat.{◌≤◌, ◌-◌}
 use native.Mathlib.Omega.{arith}
-use Rattle.rule_codes.proofs.Walks.{WalkedTo, walk-starts, walk-goes}
-use Rattle.rule_codes.proofs.SoFar.{by_table, SubgoalsWritten, so-starts, so-goes}
+use Rattle.rule_codes.proofs.Walks.{walk-starts, walk-goes}
+use Rattle.rule_codes.proofs.SoFar.{by_table, so-starts, so-goes}
 use Rattle.rule_codes.proofs.WalkSteps.{heads-few, relation-there, room-there, next-there, goal-there, codes-stored, walk-long, codes-end}
 use Rattle.rule_codes.proofs.subgoals.put_subgoals.Goals as goal
 

@@ -1,9 +1,7 @@
-use borrow.Author.Rules.{rules}
 use Rattle.rule_codes.proofs.WalkSteps.{walk-long, widths-end, heads-few, relation-there, room-there, next-there, width-stored}
-use Prim.Native.Nat.{◌≤◌, ◌-◌}
 use native.Mathlib.Omega.{arith}
-use Rattle.rule_codes.proofs.Walks.{WalkedTo, walk-starts, walk-goes}
-use Rattle.rule_codes.proofs.SoFar.{as_widths, SubgoalsWritten, so-starts, so-goes}
+use Rattle.rule_codes.proofs.Walks.{walk-starts, walk-goes}
+use Rattle.rule_codes.proofs.SoFar.{as_widths, so-starts, so-goes}
 use Rattle.rule_codes.proofs.subgoals.put_widths.Goals as goal
 
 pub overflow_mul-at : goal.overflow_mul-at

@@ -1,9 +1,6 @@
-use borrow.Author.Rules.{rules}
-use Rattle.rule_codes.proofs.WalkSteps.{walk-long, widths-end, heads-few, relation-there, room-there, next-there, width-stored}
 use Prim.Native.Nat.{◌≤◌, ◌-◌}
-use native.Mathlib.Omega.{arith}
-use Rattle.rule_codes.proofs.Walks.{WalkedTo, walk-starts, walk-goes}
-use Rattle.rule_codes.proofs.SoFar.{as_widths, SubgoalsWritten, so-starts, so-goes}
+use Rattle.rule_codes.proofs.Walks.{WalkedTo}
+use Rattle.rule_codes.proofs.SoFar.{as_widths, SubgoalsWritten}
 use Rattle.rule_codes.proofs.subgoals.put_widths.Given as goal
 
 abbrev pub invariant-loop-i : goal.invariant-loop-i

@@ -1,7 +1,4 @@
-use borrow.Author.Rules.{rules}
-use Prim.Native.Nat.{◌≤◌, ◌-◌}
 use native.Mathlib.Omega.{arith}
-use Rattle.rule_codes.specs.Tables.{BaseTable}
 use Rattle.rule_codes.proofs.TableSteps.{base_goes, base-ends}
 use Rattle.rule_codes.proofs.tables.base_table.Goals as goal
 

@@ -1,8 +1,5 @@
-use borrow.Author.Rules.{rules}
 use Prim.Native.Nat.{◌≤◌, ◌-◌}
-use native.Mathlib.Omega.{arith}
 use Rattle.rule_codes.specs.Tables.{BaseTable}
-use Rattle.rule_codes.proofs.TableSteps.{base_goes, base-ends}
 use Rattle.rule_codes.proofs.tables.base_table.Given as goal
 
 abbrev pub invariant-loop-x : goal.invariant-loop-x

@@ -1,4 +1,3 @@
-use borrow.Author.Rules.{rules}
 use Rattle.rule_codes.proofs.TableSteps.{old-variable, old-constant, above_tag}
 use Rattle.rule_codes.proofs.tables.old_code.Goals as goal
 

@@ -1,7 +1,6 @@
-use borrow.Author.Rules.{rules}
 use Rattle.rule_codes.proofs.TableSteps.{place_down, variable-down, table-down}
 use native.Mathlib.Omega.{arith}
-use Rattle.rule_codes.proofs.TableSteps.{TableFrom, from-starts, from-ends}
+use Rattle.rule_codes.proofs.TableSteps.{from-starts, from-ends}
 use Rattle.rule_codes.proofs.tables.use_table.Goals as goal
 
 pub loop-i-init : goal.loop-i-init

@@ -1,7 +1,4 @@
-use borrow.Author.Rules.{rules}
-use Rattle.rule_codes.proofs.TableSteps.{place_down, variable-down, table-down}
-use native.Mathlib.Omega.{arith}
-use Rattle.rule_codes.proofs.TableSteps.{TableFrom, from-starts, from-ends}
+use Rattle.rule_codes.proofs.TableSteps.{TableFrom}
 use Rattle.rule_codes.proofs.tables.use_table.Given as goal
 
 abbrev pub invariant-loop-i : goal.invariant-loop-i

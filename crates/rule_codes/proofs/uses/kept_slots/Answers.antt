@@ -1,4 +1,3 @@
-use borrow.Author.Rules.{rules}
 use Rattle.rule_codes.proofs.UseLaws.{as-kept}
 use Rattle.rule_codes.proofs.uses.kept_slots.Goals as goal
 

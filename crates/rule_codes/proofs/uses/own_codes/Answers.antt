@@ -1,4 +1,3 @@
-use borrow.Author.Rules.{rules}
 use Rattle.rule_codes.proofs.UseLaws.{as_own}
 use Rattle.rule_codes.proofs.uses.own_codes.Goals as goal
 

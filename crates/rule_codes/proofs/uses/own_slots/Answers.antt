@@ -1,4 +1,3 @@
-use borrow.Author.Rules.{rules}
 use Rattle.rule_codes.proofs.UseLaws.{as-slots}
 use Rattle.rule_codes.proofs.uses.own_slots.Goals as goal
 

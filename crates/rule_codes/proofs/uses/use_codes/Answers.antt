@@ -1,4 +1,3 @@
-use borrow.Author.Rules.{rules}
 use Rattle.rule_codes.proofs.UseLaws.{use-codes}
 use Rattle.rule_codes.proofs.uses.use_codes.Goals as goal
 

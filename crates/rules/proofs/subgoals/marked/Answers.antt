@@ -1,5 +1,4 @@
 use mathlib.Core.Path.{sym, ◌∙◌}
-use borrow.Author.Rules.{rules}
 use Rattle.rules.proofs.Marking.{mark-old, mark-new}
 use Rattle.rules.proofs.subgoals.marked.Goals as goal
 

@@ -1,6 +1,4 @@
-use mathlib.Core.Path.{◌≡◌, sym, ◌∙◌}
 use native.Mathlib.Omega.{arith}
-use borrow.Author.Rules.{rules}
 use Rattle.rules.proofs.GoalSteps.{goal-end, goal-unknown, goal-terms}
 use Rattle.rules.proofs.subgoals.read_subgoal.Goals as goal
 

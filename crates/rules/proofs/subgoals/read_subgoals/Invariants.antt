@@ -1,9 +1,7 @@
-use mathlib.Core.Path.{◌≡◌, sym, ◌∙◌}
+use mathlib.Core.Path.{◌≡◌}
 use Prim.Native.Nat.{◌≤◌, ◌-◌}
-use native.Mathlib.Omega.{arith}
-use borrow.Author.Rules.{rules}
 use lib.ListN.{length}
-use Rattle.rules.proofs.Runs.{subgoals, left, run-stops, run-goes, run_ends, run-starts}
+use Rattle.rules.proofs.Runs.{subgoals, left}
 use Rattle.rules.proofs.subgoals.read_subgoals.Given as goal
 
 -- what is left to read gives the whole answer

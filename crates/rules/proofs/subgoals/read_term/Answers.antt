@@ -1,7 +1,6 @@
-use mathlib.Core.Path.{◌≡◌, ap, sym, ◌∙◌}
+use mathlib.Core.Path.{ap, ◌∙◌}
 use Prim.Native.Nat.{◌+◌}
 use native.Mathlib.Omega.{arith}
-use borrow.Author.Rules.{rules}
 use Rattle.rules.specs.declared.subgoals.Step.TheVariants.{Next}
 use Rattle.rules.specs.Marked.{mark}
 use Rattle.rules.proofs.TermSteps.{at-end, bad-tag, cut, constant, variable, bad-variable}

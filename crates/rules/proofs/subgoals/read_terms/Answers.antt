@@ -1,9 +1,6 @@
-use mathlib.Core.Path.{◌≡◌, sym, ◌∙◌}
-use Prim.Native.Nat.{◌≤◌, ◌-◌}
+use mathlib.Core.Path.{◌∙◌}
 use native.Mathlib.Omega.{arith}
-use borrow.Author.Rules.{rules}
-use lib.ListN.{length}
-use Rattle.rules.proofs.Runs.{terms, left, run-stops, run-goes, run_ends, run-starts}
+use Rattle.rules.proofs.Runs.{terms, run-stops, run-goes, run_ends, run-starts}
 use Rattle.rules.proofs.subgoals.read_terms.Goals as goal
 
 pub loop-i-init : goal.loop-i-init

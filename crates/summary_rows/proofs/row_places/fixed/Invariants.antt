@@ -1,9 +1,6 @@
-use borrow.Author.Rules.{rules}
 use mathlib.Core.Path.{◌≡◌}
 use Prim.Native.Nat.{◌≤◌, ◌-◌}
-use native.Mathlib.Omega.{arith}
 use Rattle.summary_rows.specs.FixedPlaces.{fixing}
-use Rattle.summary_rows.proofs.FixingSteps.{fixing-start, fixing_step, fixing_end}
 use Rattle.summary_rows.proofs.row_places.fixed.Given as goal
 
 abbrev pub invariant-loop-i : goal.invariant-loop-i

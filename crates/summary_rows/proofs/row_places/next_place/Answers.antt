@@ -1,9 +1,6 @@
 use borrow.Author.Rules.{rules}
-use Prim.Native.Nat.{◌-◌}
 use native.Mathlib.Omega.{arith}
-use lib.ListN.{length}
-use Rattle.task.specs.Task.{posed}
-use Rattle.summary_rows.proofs.PlaceLaw.{TargetsTried, passed_start, passed-other, passed-not, on-more, place_found, place_none}
+use Rattle.summary_rows.proofs.PlaceLaw.{passed_start, passed-other, passed-not, on-more, place_found, place_none}
 use Rattle.summary_rows.proofs.row_places.next_place.Goals as goal
 
 pub targets-init : goal.targets-init

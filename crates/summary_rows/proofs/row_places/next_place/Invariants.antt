@@ -1,9 +1,7 @@
-use borrow.Author.Rules.{rules}
 use Prim.Native.Nat.{◌-◌}
-use native.Mathlib.Omega.{arith}
 use lib.ListN.{length}
 use Rattle.task.specs.Task.{posed}
-use Rattle.summary_rows.proofs.PlaceLaw.{TargetsTried, passed_start, passed-other, passed-not, on-more, place_found, place_none}
+use Rattle.summary_rows.proofs.PlaceLaw.{TargetsTried}
 use Rattle.summary_rows.proofs.row_places.next_place.Given as goal
 
 abbrev pub invariant-targets : goal.invariant-targets

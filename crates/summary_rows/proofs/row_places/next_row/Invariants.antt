@@ -1,9 +1,6 @@
-use borrow.Author.Rules.{rules}
-use Prim.Native.Nat.{◌≤◌, ◌-◌}
-use native.Mathlib.Omega.{arith}
+use Prim.Native.Nat.{◌≤◌}
 use Rattle.task.specs.Task.{posed}
-use Rattle.summary_rows.proofs.NextLaw.{Gone, gone-start}
-use Rattle.summary_rows.proofs.NextSteps.{place-within, row_at, found_none, found-not, found_at, found-row}
+use Rattle.summary_rows.proofs.NextLaw.{Gone}
 use Rattle.summary_rows.proofs.row_places.next_row.Given as goal
 
 abbrev pub invariant-loop-j : goal.invariant-loop-j

@@ -1,7 +1,6 @@
-use borrow.Author.Rules.{rules}
 use Prim.Native.Nat.{◌-◌}
 use Rattle.task.specs.Task.{posed}
-use Rattle.summary_rows.proofs.FillLaw.{FrontFilled, filled-start, filled_more, filled-end}
+use Rattle.summary_rows.proofs.FillLaw.{FrontFilled}
 use Rattle.summary_rows.proofs.row_places.row_with.Given as goal
 
 abbrev pub invariant-loop-i : goal.invariant-loop-i

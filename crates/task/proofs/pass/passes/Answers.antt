@@ -1,11 +1,7 @@
 use borrow.Author.Rules.{rules}
-use mathlib.Core.Path.{◌≡◌}
-use lib.ListN.{length}
-use Prim.Native.Nat.{◌-◌}
 use native.Mathlib.Omega.{arith}
-use borrow.Author.Tests.{not-true, not-false}
-use Rattle.task.specs.Task.{posed}
-use Rattle.task.proofs.Going.{PlacesFollowed, going_start, going_end, going-never, going_more}
+use borrow.Author.Tests.{not-false}
+use Rattle.task.proofs.Going.{going_start, going_end, going-never, going_more}
 use Rattle.task.proofs.pass.passes.Goals as goal
 
 pub loop-i-init : goal.loop-i-init

@@ -1,11 +1,8 @@
-use borrow.Author.Rules.{rules}
 use mathlib.Core.Path.{◌≡◌}
 use lib.ListN.{length}
 use Prim.Native.Nat.{◌-◌}
-use native.Mathlib.Omega.{arith}
-use borrow.Author.Tests.{not-true, not-false}
 use Rattle.task.specs.Task.{posed}
-use Rattle.task.proofs.Going.{PlacesFollowed, going_start, going_end, going-never, going_more}
+use Rattle.task.proofs.Going.{PlacesFollowed}
 use Rattle.task.proofs.pass.passes.Given as goal
 
 abbrev pub invariant-loop-i : goal.invariant-loop-i

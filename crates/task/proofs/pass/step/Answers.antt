@@ -1,13 +1,10 @@
-use borrow.Author.Rules.{rules}
 use mathlib.Core.Path.{sym, ◌∙◌}
-use mathlib.Core.Logic.{⊎_elim}
-use Prim.Native.Nat.{◌≤◌, ◌+◌, ◌-◌, ◌*◌}
+use Prim.Native.Nat.{◌+◌, ◌*◌}
 use native.Mathlib.Omega.{arith}
-use borrow.Author.Tests.{not-true, not-false, eqb-true, eqb-false}
+use borrow.Author.Tests.{not-true, eqb-true, eqb-false}
 use lib.ListN.{get_or}
-use Rattle.task.specs.Task.{posed}
 use Rattle.task.proofs.Slots.{stood-none}
-use Rattle.task.proofs.Stepping.{Guessed, guessed-start, guessed-same, guessed-new, leads-beyond, leads-relation, leads-unlike, leads-on}
+use Rattle.task.proofs.Stepping.{guessed-start, guessed-same, guessed-new, leads-beyond, leads-relation, leads-unlike, leads-on}
 use Rattle.task.proofs.pass.step.Goals as goal
 use Rattle.task.proofs.pass.step.Goals.{then-have-eq0, else-have-eq0+else-not-alike}
 
@@ -151,12 +148,11 @@ returns-then-not-alike c =
 pub loop-a-preserved : goal.loop-a-preserved
 loop-a-preserved c =
     let stands = c.stands-have in
-    let l = c.loop-a in
-    (
+    let l = c.loop-a in (
       omega (arith, c.loop-a-test.true),
       elim c.if-have-eq0.branch [
-        then-have-eq0 w ↦ rw w.g-is (guessed-new _ _ _ _ _ _ l.invariant.1 (sym stands.ensures ∙ w.if-have-eq0.true) (c.requires.sized.solid c.args.k l.a c.if-own-k.false (omega (arith, c.width-a-end.ensures.1, c.loop-a-test.true))))
-      | else-have-eq0+else-not-alike w ↦ rw w.g-is (guessed-same _ _ _ _ _ _ l.invariant.1 (λ e. w.if-have-eq0.false (stands.ensures ∙ e)) (sym stands.ensures ∙ eqb-true _ _ (sym w.alike.ensures ∙ w.if-not-alike.false)))
+        | then-have-eq0 w ↦ rw w.g-is (guessed-new _ _ _ _ _ _ l.invariant.1 (sym stands.ensures ∙ w.if-have-eq0.true) (c.requires.sized.solid c.args.k l.a c.if-own-k.false (omega (arith, c.width-a-end.ensures.1, c.loop-a-test.true))))
+        | else-have-eq0+else-not-alike w ↦ rw w.g-is (guessed-same _ _ _ _ _ _ l.invariant.1 (λ e. w.if-have-eq0.false (stands.ensures ∙ e)) (sym stands.ensures ∙ eqb-true _ _ (sym w.alike.ensures ∙ w.if-not-alike.false)))
       ],
     )
 

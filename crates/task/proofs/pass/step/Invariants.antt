@@ -1,13 +1,6 @@
-use borrow.Author.Rules.{rules}
-use mathlib.Core.Path.{sym, ◌∙◌}
-use mathlib.Core.Logic.{⊎_elim}
-use Prim.Native.Nat.{◌≤◌, ◌+◌, ◌-◌, ◌*◌}
-use native.Mathlib.Omega.{arith}
-use borrow.Author.Tests.{not-true, not-false, eqb-true, eqb-false}
-use lib.ListN.{get_or}
+use Prim.Native.Nat.{◌≤◌, ◌-◌}
 use Rattle.task.specs.Task.{posed}
-use Rattle.task.proofs.Slots.{stood-none}
-use Rattle.task.proofs.Stepping.{Guessed, guessed-start, guessed-same, guessed-new, leads-beyond, leads-relation, leads-unlike, leads-on}
+use Rattle.task.proofs.Stepping.{Guessed}
 use Rattle.task.proofs.pass.step.Given as goal
 
 abbrev pub invariant-loop-a : goal.invariant-loop-a

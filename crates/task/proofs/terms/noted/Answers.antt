@@ -1,4 +1,3 @@
-use borrow.Author.Rules.{rules}
 use mathlib.Core.Path.{sym, ◌∙◌}
 use Rattle.task.proofs.Slots.{noting-slot, noting-code}
 use Rattle.task.proofs.terms.noted.Goals as goal

@@ -1,6 +1,4 @@
-use borrow.Author.Rules.{rules}
-use Prim.Native.Nat.{◌-◌}
-use Rattle.task.proofs.Clear.{Cleared, clear-start, clear-more, clear-end, clear_none}
+use Rattle.task.proofs.Clear.{clear-start, clear-more, clear-end, clear_none}
 use Rattle.task.proofs.terms.opened.Goals as goal
 
 pub returns-then-last-eq0 : goal.returns-then-last-eq0

@@ -1,6 +1,5 @@
-use borrow.Author.Rules.{rules}
 use Prim.Native.Nat.{◌-◌}
-use Rattle.task.proofs.Clear.{Cleared, clear-start, clear-more, clear-end, clear_none}
+use Rattle.task.proofs.Clear.{Cleared}
 use Rattle.task.proofs.terms.opened.Given as goal
 
 abbrev pub invariant-loop-x : goal.invariant-loop-x

@@ -1,4 +1,3 @@
-use borrow.Author.Rules.{rules}
 use mathlib.Core.Path.{sym}
 use Rattle.task.proofs.Slots.{stood-slot, stood-code}
 use Rattle.task.proofs.terms.stands.Goals as goal

@@ -4,7 +4,6 @@ use lib.Seq.{length-take-le}
 use Rattle.book_codes.proofs.Lent.{targets-few, target_room}
 use Rattle.witness.proofs.BackLaws.{back-placed, back-of}
 use Rattle.book_codes.proofs.BackTask.{some-sound, back-lent}
-use borrow.Author.Rules.{rules}
 use Rattle.witness.proofs.back.back_from.Goals as goal
 
 pub question_target-n-requires : goal.question_target-n-requires

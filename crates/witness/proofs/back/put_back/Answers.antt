@@ -3,7 +3,6 @@ use native.Mathlib.Omega.{arith}
 use lib.Seq.{length-take-le}
 use Rattle.book_codes.proofs.Expanded.{rows-given, few-goals, codes-long, widths-kept, ends-kept}
 use Rattle.witness.proofs.BackServing.{from-serving, back-told}
-use borrow.Author.Rules.{rules}
 use Rattle.witness.proofs.back.put_back.Goals as goal
 
 pub expand_back-goals-requires : goal.expand_back-goals-requires

@@ -1,10 +1,9 @@
-use mathlib.Core.Path.{◌≡◌, refl, ap, sym, ◌∙◌}
-use Prim.Native.Nat.{◌≤◌, ◌-◌, ◌+◌, ◌*◌, ◌%◌}
+use mathlib.Core.Path.{◌≡◌, refl, ap, ◌∙◌}
+use Prim.Native.Nat.{◌+◌, ◌%◌}
 use native.Mathlib.Omega.{arith}
-use borrow.Author.Rules.{rules}
-use lib.ListN.{length, get_or, set, length-set}
+use lib.ListN.{length, get_or, set}
 use lib.Seq.{sets, length-sets}
-use Rattle.witness.specs.WitnessBytes.{pair_bytes, place_bytes}
+use Rattle.witness.specs.WitnessBytes.{place_bytes}
 use Rattle.witness.proofs.WitnessStores.{place-stored}
 use Rattle.witness.proofs.bytes.put_places.Goals as goal
 

@@ -1,11 +1,8 @@
-use mathlib.Core.Path.{◌≡◌, refl, ap, sym, ◌∙◌}
-use Prim.Native.Nat.{◌≤◌, ◌-◌, ◌+◌, ◌*◌, ◌%◌}
-use native.Mathlib.Omega.{arith}
-use borrow.Author.Rules.{rules}
-use lib.ListN.{length, get_or, set, length-set}
-use lib.Seq.{sets, length-sets}
-use Rattle.witness.specs.WitnessBytes.{pair_bytes, place_bytes}
-use Rattle.witness.proofs.WitnessStores.{place-stored}
+use mathlib.Core.Path.{◌≡◌}
+use Prim.Native.Nat.{◌≤◌, ◌-◌}
+use lib.ListN.{length}
+use lib.Seq.{sets}
+use Rattle.witness.specs.WitnessBytes.{place_bytes}
 use Rattle.witness.proofs.bytes.put_places.Given as goal
 
 -- the places so far are stored

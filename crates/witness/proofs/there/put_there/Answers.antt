@@ -3,7 +3,6 @@ use native.Mathlib.Omega.{arith}
 use lib.Seq.{length-take-le}
 use Rattle.book_codes.proofs.Expanded.{rows-given, few-goals, codes-long, owners-kept, insides-kept}
 use Rattle.witness.proofs.ThereServing.{onto-serving, there-told}
-use borrow.Author.Rules.{rules}
 use Rattle.witness.proofs.there.put_there.Goals as goal
 
 pub expand-goals-requires : goal.expand-goals-requires

@@ -4,7 +4,6 @@ use lib.Seq.{length-take-le}
 use Rattle.book_codes.proofs.Lent.{goals-few, source-room, widths-room}
 use Rattle.witness.proofs.ThereLaws.{there-paired, there-of}
 use Rattle.book_codes.proofs.ThereTask.{some-sound, there-lent}
-use borrow.Author.Rules.{rules}
 use Rattle.witness.proofs.there.there_onto.Goals as goal
 
 pub question_source-n-requires : goal.question_source-n-requires

@@ -4,7 +4,6 @@ use lib.Seq.{length-take-le}
 use Rattle.book_codes.proofs.Lent.{targets-few, target_room}
 use Rattle.book_codes.proofs.BackTask.{some-sound, back-lent, all-few}
 use Rattle.witness_check.proofs.WayBack.Ways.{back-short, back-followed}
-use borrow.Author.Rules.{rules}
 use Rattle.witness_check.proofs.back.back_along.Goals as goal
 
 pub returns-then-witness-widths : goal.returns-then-witness-widths

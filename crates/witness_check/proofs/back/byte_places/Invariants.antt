@@ -1,10 +1,6 @@
-use borrow.Author.Rules.{rules}
-use mathlib.Core.Path.{refl}
 use Prim.Native.Nat.{◌≤◌, ◌-◌}
-use native.Mathlib.Omega.{arith}
 use lib.ListN.{length}
 use Rattle.witness_check.specs.WayBack.Places.{BytePlaces}
-use Rattle.witness_check.proofs.WayBack.Storing.{bytes-start, bytes-more, bytes-end}
 use Rattle.witness_check.proofs.back.byte_places.Given as goal
 
 -- the bytes so far

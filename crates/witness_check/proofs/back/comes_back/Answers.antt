@@ -3,7 +3,6 @@ use native.Mathlib.Omega.{arith}
 use lib.Seq.{length-take-le}
 use Rattle.book_codes.proofs.Expanded.{rows-given, few-goals, codes-long, widths-kept, ends-kept}
 use Rattle.book_codes.proofs.Sourced.{from-of, from}
-use borrow.Author.Rules.{rules}
 use Rattle.witness_check.proofs.back.comes_back.Goals as goal
 
 pub expand_back-goals-requires : goal.expand_back-goals-requires

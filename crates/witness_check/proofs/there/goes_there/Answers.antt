@@ -3,7 +3,6 @@ use native.Mathlib.Omega.{arith}
 use lib.Seq.{length-take-le}
 use Rattle.book_codes.proofs.Expanded.{rows-given, few-goals, codes-long, owners-kept}
 use Rattle.witness_check.proofs.WayThere.Rowed.{stood, there-confirmed}
-use borrow.Author.Rules.{rules}
 use Rattle.witness_check.proofs.there.goes_there.Goals as goal
 
 pub expand-goals-requires : goal.expand-goals-requires

@@ -1,8 +1,5 @@
-use borrow.Author.Rules.{rules}
 use mathlib.Core.Path.{refl}
-use Prim.Native.Nat.{◌≤◌, ◌-◌}
 use native.Mathlib.Omega.{arith}
-use Rattle.witness_check.specs.WayThere.Places.{PairPlaces}
 use Rattle.witness_check.proofs.WayThere.Storing.{pairs_start, pairs-more, pairs_end}
 use Rattle.witness_check.proofs.there.pair_places.Goals as goal
 

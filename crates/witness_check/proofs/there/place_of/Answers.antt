@@ -1,10 +1,5 @@
-use mathlib.Core.Path.{◌≡◌, refl, sym, ap, ◌∙◌}
-use Prim.Native.Nat.{ℕ, suc, ◌+◌, ◌-◌, ◌<◌}
 use native.Mathlib.Omega.{arith}
-use lib.ListN.{get_or}
-use Rattle.witness_check.specs.WayThere.Places.{PlaceOf}
 use Rattle.witness_check.proofs.WayThere.Placing.{no_place, no_row, no_inner, past-use, in_use}
-use borrow.Author.Rules.{rules}
 use Rattle.witness_check.proofs.there.place_of.Goals as goal
 
 pub returns-then-of-lt1 : goal.returns-then-of-lt1

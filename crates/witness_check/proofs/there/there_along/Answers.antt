@@ -4,7 +4,6 @@ use lib.Seq.{length-take-le}
 use Rattle.book_codes.proofs.Lent.{goals-few, source-room, widths-room}
 use Rattle.book_codes.proofs.ThereTask.{there-lent}
 use Rattle.witness_check.proofs.WayThere.Ways.{stood-sound, there-short, there-followed}
-use borrow.Author.Rules.{rules}
 use Rattle.witness_check.proofs.there.there_along.Goals as goal
 
 pub question_source-n-requires : goal.question_source-n-requires
