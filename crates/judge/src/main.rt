@@ -22,12 +22,12 @@ fn main(rt: HostRuntime) -> io::Result<()> {
     let mut out = BufWriter::new(rt.alloc(), io::writer(&rt))?;
     if is_there(&rt, 3) && !is_there(&rt, 4) {
         judge_files(&rt, &mut out)?;
-    } else if &first[..n] == b"many" {
-        judge_many(&mut input, &mut out, false)?;
-    } else if &first[..n] == b"repeat" {
-        judge_many(&mut input, &mut out, true)?;
-    } else {
-        eprintln!(rt; "usage: judge BOOK REWRITING WITNESS")?;
+        return out.flush();
+    }
+    match &first[..n] {
+        b"many" => judge_many(&mut input, &mut out, false)?,
+        b"repeat" => judge_many(&mut input, &mut out, true)?,
+        _ => eprintln!(rt; "usage: judge BOOK REWRITING WITNESS")?,
     }
     out.flush()
 }

@@ -47,7 +47,7 @@ struct Sizes {
 }
 
 // What stands before the next triple, or none where the input ends.
-fn sizes<R: Read>(input: &mut R) -> io::Result<Option<Sizes>> {
+fn next_sizes<R: Read>(input: &mut R) -> io::Result<Option<Sizes>> {
     let (Some(book), Some(rewriting), Some(witness)) = (size(input)?, size(input)?, size(input)?)
     else {
         return Ok(None);
@@ -77,7 +77,7 @@ fn judge_next<R: Read, W: Write>(
     let Some(times) = times_of(input, is_repeated)? else {
         return Ok(false);
     };
-    let Some(sizes) = sizes(input)? else {
+    let Some(sizes) = next_sizes(input)? else {
         return Ok(false);
     };
     let mut book = [0u8; BOOK];

@@ -102,7 +102,8 @@ fn main(rt: HostRuntime) -> io::Result<()> {
         b"many" => many_books(&mut input, &mut out, Form::Listing)?,
         b"areas" => many_books(&mut input, &mut out, Form::Areas)?,
         b"repeat" => many_books(&mut input, &mut out, Form::Repeated)?,
-        word => one_book(&rt, &mut input, &mut out, word == b"store")?,
+        b"store" => one_book(&rt, &mut input, &mut out, true)?,
+        _ => one_book(&rt, &mut input, &mut out, false)?,
     }
     out.flush()
 }
