@@ -13,8 +13,9 @@ FUNCTIONS = (("rewriter", "lib", "rewrite"), ("checker", "lib", "check"), ("book
              ("books", "lib", "tunesatchel_read_book"), ("contents", "lib", "load"), ("contents", "lib", "entry"),
              ("contents", "table", "load_table"), ("admission", "lib", "lead_of"), ("admission", "lib", "is_admitted"),
              ("admission", "lib", "size_of"))
-USE = re.compile(r"^\s*(?:(?:pub|ghost|unfoldable|abbrev) )*use (Rattle·\S+?)\.\{([^}]*)\};?\s*$")
-TYPE = re.compile(r"Rattle·spec(?:·specs)?\.specs\.(?:specs\.)?declared\.")
+# what a file brings in from the crates here; the kit's own words (Rattle.std, mathlib) are the language's
+USE = re.compile(r"^\s*(?:(?:pub|ghost|unfoldable|abbrev) )*use (Rattle\.(?:%s)\.\S+?)\.\{([^}]*)\};?\s*$" % "|".join(sorted(os.listdir("crates"))))
+TYPE = re.compile(r"Rattle\.spec\.specs\.declared\.")
 
 
 def text(path):
@@ -23,7 +24,7 @@ def text(path):
 
 
 def path_of(module):
-    crate, kind, rest = re.match(r"Rattle·(\w+?)(?:·(?:specs|proofs)\.)?\.?(specs|proofs)\.(.+)$", module).groups()
+    crate, kind, rest = re.match(r"Rattle\.(\w+)\.(specs|proofs)\.(.+)$", module).groups()
     return "crates/%s/%s/%s.antt" % (crate, kind, rest.replace(".", "/"))
 
 

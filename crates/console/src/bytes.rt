@@ -2,18 +2,8 @@
 // books and areas whose lengths it has not proved anything of.
 ghost use Rattle.std.specs.Prelude.{◌≤◌};
 
-// A byte as a wider number, with its bound.
-fn wide(byte: u8) -> u64
-    ensures { result ≤ 255 }
-{
-    byte as u64
-}
-
 pub(crate) fn byte_at(bytes: &[u8], at: usize) -> u8 {
-    if at < bytes.len() {
-        return bytes[at];
-    }
-    0
+    bytes.get(at).copied().unwrap_or(0)
 }
 
 // The same, to count with.
@@ -27,7 +17,10 @@ pub(crate) fn count_at(bytes: &[u8], at: usize) -> usize
 pub(crate) fn number_at(bytes: &[u8], at: usize) -> u32
     requires { at ≤ 1000000 }
 {
-    let low = wide(byte_at(bytes, at)) + 256 * wide(byte_at(bytes, at + 1));
-    let high = wide(byte_at(bytes, at + 2)) + 256 * wide(byte_at(bytes, at + 3));
-    (low + 65536 * high) as u32
+    u32::from_le_bytes([
+        byte_at(bytes, at),
+        byte_at(bytes, at + 1),
+        byte_at(bytes, at + 2),
+        byte_at(bytes, at + 3),
+    ])
 }

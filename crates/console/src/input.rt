@@ -1,48 +1,58 @@
 // Many books on standard input, each after its size.
-ghost use Rattle.std.specs.Prelude.{◌≤◌, ◌<◌};
-ghost use Rattle.io.specs.Counts.{IsPrefixLen};
+ghost use Rattle.std.specs.Prelude.{◌≤◌, IfOk};
+ghost use Rattle.std.specs.Io.{ReadsAtMost};
 
-use libc::STDIN_FILENO;
+use std::io;
+use std::io::{ErrorKind, Read};
 
-// No book has this size: sizes are numbers of 32 bits.
-pub const NO_MORE: u64 = 4294967296;
-
-fn wide(byte: u8) -> u64
-    ensures { result ≤ 255 }
-{
-    byte as u64
-}
-
-// The size that stands before the next book, or NO_MORE where the input ends.
-pub fn size() -> u64 {
+// The size that stands before the next book, or none where the input ends.
+pub fn size<R: Read>(input: &mut R) -> io::Result<Option<u32>> {
     let mut b = [0u8; 4];
-    if io::read_full(STDIN_FILENO, &mut b) < 4 {
-        return NO_MORE;
+    if fill_room(input, &mut b)? < b.len() {
+        return Ok(None);
     }
-    wide(b[0]) + wide(b[1]) * 256 + wide(b[2]) * 65536 + wide(b[3]) * 16777216
+    Ok(Some(u32::from_le_bytes(b)))
 }
 
 // Reads as many bytes as are wanted, fit and come; answers how many.
-pub fn fill(room: &mut [u8], wanted: u64) -> usize
-    ensures { IsPrefixLen result room.new × (result ≤ wanted) }
+pub fn fill<R: Read>(input: &mut R, room: &mut [u8], wanted: u64) -> io::Result<usize>
+    ensures front { ReadsAtMost result room.new }
+    ensures wanted { IfOk result (λ n. n ≤ wanted) }
 {
     if wanted < room.len() as u64 {
         let n = wanted as usize;
-        io::read_full(STDIN_FILENO, &mut room[..n])
+        fill_room(input, &mut room[..n])
     } else {
-        io::read_full(STDIN_FILENO, room)
+        fill_room(input, room)
     }
 }
 
 // Passes over so many bytes, or over what is left of the input.
-pub fn pass(bytes: u64) {
-    let mut scrap = [0u8; 4096];
-    let mut left = bytes;
-    while left > 0 {
-        let passed = fill(&mut scrap, left);
-        if passed == 0 {
-            return;
+pub fn pass<R: Read>(input: &mut R, bytes: u64) -> io::Result<()> {
+    io::copy(&mut input.by_ref().take(bytes), &mut io::sink())?;
+    Ok(())
+}
+
+// Reads until the room is full or the input ends; answers how many bytes stand in it.
+fn fill_room<R: Read>(input: &mut R, room: &mut [u8]) -> io::Result<usize>
+    ensures { ReadsAtMost result room.new }
+{
+    let mut filled = 0;
+    // A proved loop has to end, and nothing says that the input does: no input uses up so many turns.
+    for _ in 0..u64::MAX {
+        if filled == room.len() {
+            break;
         }
-        left -= passed as u64;
+        match input.read(&mut room[filled..]) {
+            Ok(0) => break,
+            Ok(came) => filled += came,
+            Err(error) => {
+                // A signal came before the first byte: the read is tried again.
+                if error.kind() != ErrorKind::Interrupted {
+                    return Err(error);
+                }
+            }
+        }
     }
+    Ok(filled)
 }

@@ -8,39 +8,40 @@ use admission::{lead_of, size_of};
 use contents::fields::stamp_at;
 use contents::load;
 use spec::{Lead, Loaded};
+use std::io;
+use std::io::Write;
 
-fn print_lead(lead: Lead) {
+fn print_lead<W: Write>(out: &mut W, lead: Lead) -> io::Result<()> {
     match lead {
-        Lead::Unfilled => print_text(b" lead none"),
+        Lead::Unfilled => print_text(out, " lead none"),
         Lead::Ahead(by) => {
             if by < 0 {
-                print_after(b" lead -", size_of(by));
+                print_after(out, " lead -", size_of(by))
             } else {
-                print_after(b" lead ", size_of(by));
+                print_after(out, " lead ", size_of(by))
             }
         }
     }
 }
 
 // One line: a summary, counted from 1, and its lead, or none. The stamp of entry 1, the question, is the need.
-fn print_view(book: &[u8], summary: usize)
+fn print_view<W: Write>(out: &mut W, book: &[u8], summary: usize) -> io::Result<()>
     requires { Loads book.now × (summary ≤ count book.now) }
 {
-    print_after(b"view ", summary as u64);
-    print_lead(lead_of(stamp_at(book, 1), stamp_at(book, summary + 1)));
-    end_line();
+    print_after(out, "view ", summary as u64)?;
+    print_lead(out, lead_of(stamp_at(book, 1), stamp_at(book, summary + 1)))?;
+    end_line(out)
 }
 
 // Nothing where the contents do not load.
-pub(crate) fn print_leads(book: &[u8]) {
+pub(crate) fn print_leads<W: Write>(out: &mut W, book: &[u8]) -> io::Result<()> {
     let Loaded::Good(n) = load(book) else {
-        return;
+        return Ok(());
     };
-    print_after(b"need ", stamp_at(book, 1) as u64);
-    end_line();
-    let mut i: usize = 0;
-    while i < n {
-        i += 1;
-        print_view(book, i);
+    print_after(out, "need ", stamp_at(book, 1) as u64)?;
+    end_line(out)?;
+    for i in 0..n {
+        print_view(out, book, i + 1)?;
     }
+    Ok(())
 }

@@ -3,23 +3,31 @@
 //     judge BOOK REWRITING WITNESS     the three files
 //     judge many                       standard input is many triples, each after its three lengths (stream.rt)
 //     judge repeat                     the same, each checked several times, for timing
+#![tactic(auto)]
+
 mod files; // the three files
 mod rooms; // how much of each is read
 mod stream; // many triples on standard input
 
-use check::same;
-use libc::STDERR_FILENO;
+use crate::files::judge_files;
+use crate::stream::judge_many;
+use console::words::{is_there, word};
+use std::io;
+use std::io::{BufReader, BufWriter, Write};
 
-fn main() {
-    let mut word = [0u8; 8];
-    let n = os::arg(1, &mut word);
-    if os::arg_count() == 4 {
-        crate::files::judge_files();
-    } else if same(&word[..n], b"many") {
-        crate::stream::judge_many(false);
-    } else if same(&word[..n], b"repeat") {
-        crate::stream::judge_many(true);
-    } else {
-        io::write_all(STDERR_FILENO, b"usage: judge BOOK REWRITING WITNESS\n");
+fn main(rt: HostRuntime) -> io::Result<()> {
+    let mut first = [0u8; 8];
+    let n = word(&rt, 1, &mut first);
+    let mut input = BufReader::new(rt.alloc(), rt.reader())?;
+    let mut out = BufWriter::new(rt.alloc(), io::writer(&rt))?;
+    if is_there(&rt, 3) && !is_there(&rt, 4) {
+        judge_files(&rt, &mut out)?;
+        return out.flush();
     }
+    match &first[..n] {
+        b"many" => judge_many(&mut input, &mut out, false)?,
+        b"repeat" => judge_many(&mut input, &mut out, true)?,
+        _ => eprintln!(rt; "usage: judge BOOK REWRITING WITNESS")?,
+    }
+    out.flush()
 }

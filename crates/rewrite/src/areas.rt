@@ -5,50 +5,55 @@
 ghost use Rattle.std.specs.Prelude.{◌≤◌};
 
 use crate::told::{Told, tell};
-use libc::STDOUT_FILENO;
 use spec::{ANSWER_ROOM, WITNESS_ROOM};
+use std::io;
+use std::io::Write;
 
 // What an area holds before: bytes that go through all values, from `first` on.
 fn pattern(area: &mut [u8], first: u8) {
     let mut byte = first;
-    let mut i: usize = 0;
-    while i < area.len() {
-        area[i] = byte;
-        byte = std::num::wrapping_add_u8(byte, 7);
-        i += 1;
+    for place in area.iter_mut() {
+        *place = byte;
+        byte = byte.wrapping_add(7);
     }
 }
 
-fn print_told(told: Told) {
+fn print_told<W: Write>(out: &mut W, told: Told) -> io::Result<()> {
     console::print_four(
+        out,
         told.number as u64,
         told.place as u64,
         told.answer as u64,
         told.witness as u64,
-    );
+    )
 }
 
-fn print_left(book: &[u8], answer: &mut [u8], witness: &mut [u8]) {
-    print_told(tell(book, answer, witness));
-    io::write_all(STDOUT_FILENO, answer);
-    io::write_all(STDOUT_FILENO, witness);
+fn print_left<W: Write>(
+    out: &mut W,
+    book: &[u8],
+    answer: &mut [u8],
+    witness: &mut [u8],
+) -> io::Result<()> {
+    print_told(out, tell(book, answer, witness))?;
+    out.write_all(answer)?;
+    out.write_all(witness)
 }
 
 // One call, with areas of n and m bytes.
-fn print_with(book: &[u8], n: usize, m: usize)
+fn print_with<W: Write>(out: &mut W, book: &[u8], n: usize, m: usize) -> io::Result<()>
     requires { (n ≤ 600) × (m ≤ 150) }
 {
     let mut answer = [0u8; 600];
     let mut witness = [0u8; 150];
     pattern(&mut answer, 3);
     pattern(&mut witness, 100);
-    print_left(book, &mut answer[..n], &mut witness[..m]);
+    print_left(out, book, &mut answer[..n], &mut witness[..m])
 }
 
-pub(crate) fn print_areas(book: &[u8]) {
-    print_with(book, 600, 150);
-    print_with(book, ANSWER_ROOM, WITNESS_ROOM);
-    print_with(book, ANSWER_ROOM - 1, WITNESS_ROOM);
-    print_with(book, ANSWER_ROOM, WITNESS_ROOM - 1);
-    print_with(book, ANSWER_ROOM - 1, WITNESS_ROOM - 1);
+pub(crate) fn print_areas<W: Write>(out: &mut W, book: &[u8]) -> io::Result<()> {
+    print_with(out, book, 600, 150)?;
+    print_with(out, book, ANSWER_ROOM, WITNESS_ROOM)?;
+    print_with(out, book, ANSWER_ROOM - 1, WITNESS_ROOM)?;
+    print_with(out, book, ANSWER_ROOM, WITNESS_ROOM - 1)?;
+    print_with(out, book, ANSWER_ROOM - 1, WITNESS_ROOM - 1)
 }

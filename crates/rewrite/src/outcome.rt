@@ -1,35 +1,23 @@
 // A book's listing, or its refusal; and answer and witness as files, for the checker.
-use crate::told::tell;
+use crate::told::{Told, tell};
+use console::words::{path_of, print_failure, word};
 use console::{print_listing, print_refusal};
 use spec::{ANSWER_ROOM, WITNESS_ROOM};
+use std::env::Env;
+use std::fs::Files;
+use std::io::Write;
+use std::{fs, io};
 
-// Writes the bytes to the file of this name, and says on standard error where that fails.
-fn write_named(path: &[u8], bytes: &[u8]) {
-    let file = os::open_overwrite(path);
-    if file < 0 {
-        os::fail(path);
-        return;
-    }
-    if !io::write_all(file, bytes) {
-        os::fail(path);
-    }
-    libc::close(file);
+fn write_named<F: Files>(rt: &F, path: &[u8], bytes: &[u8]) -> io::Result<()> {
+    fs::write(rt, path_of(path)?, bytes)
 }
 
-// The same to the file that an argument names.
-fn write_file(argument: usize, bytes: &[u8]) {
+// Writes the bytes to the file that an argument names, and says on standard error where that fails.
+fn write_file<R: Env + Files + Eprint>(rt: &R, argument: usize, bytes: &[u8]) {
     let mut path = [0u8; 4096];
-    let n = os::arg(argument, &mut path);
-    write_named(&path[..n], bytes);
-}
-
-// The listing of an answer; with `store`, it and its witness are also written to the files that the
-// second and the third word name.
-fn print_answer(book: &[u8], answer: &[u8], witness: &[u8], store: bool) {
-    print_listing(book, answer, witness);
-    if store {
-        write_file(2, answer);
-        write_file(3, witness);
+    let n = word(rt, argument, &mut path);
+    if let Err(why) = write_named(rt, &path[..n], bytes) {
+        print_failure(rt, &path[..n], &why);
     }
 }
 
@@ -41,19 +29,48 @@ fn front(bytes: &[u8], n: usize) -> &[u8] {
     &bytes[..n]
 }
 
-// On a refusal no file is touched.
-pub(crate) fn print_outcome(book: &[u8], store: bool) {
+// The listing or the refusal; answer and witness stand in the two areas then.
+fn print_answer<W: Write>(
+    out: &mut W,
+    book: &[u8],
+    answer: &mut [u8],
+    witness: &mut [u8],
+) -> io::Result<Told> {
+    let told = tell(book, answer, witness);
+    if told.number > 0 {
+        print_refusal(out, told.number, told.place)?;
+    } else {
+        print_listing(
+            out,
+            book,
+            front(answer, told.answer),
+            front(witness, told.witness),
+        )?;
+    }
+    Ok(told)
+}
+
+pub(crate) fn print_outcome<W: Write>(out: &mut W, book: &[u8]) -> io::Result<()> {
     let mut answer = [0u8; ANSWER_ROOM];
     let mut witness = [0u8; WITNESS_ROOM];
-    let told = tell(book, &mut answer, &mut witness);
-    if told.number > 0 {
-        print_refusal(told.number, told.place);
-    } else {
-        print_answer(
-            book,
-            front(&answer, told.answer),
-            front(&witness, told.witness),
-            store,
-        );
+    print_answer(out, book, &mut answer, &mut witness)?;
+    Ok(())
+}
+
+// The same; answer and witness are also written to the files that the second and the third word name.
+// On a refusal no file is touched.
+pub(crate) fn store_outcome<R: Env + Files + Eprint, W: Write>(
+    rt: &R,
+    out: &mut W,
+    book: &[u8],
+) -> io::Result<()> {
+    let mut answer = [0u8; ANSWER_ROOM];
+    let mut witness = [0u8; WITNESS_ROOM];
+    let told = print_answer(out, book, &mut answer, &mut witness)?;
+    out.flush()?;
+    if told.number == 0 {
+        write_file(rt, 2, front(&answer, told.answer));
+        write_file(rt, 3, front(&witness, told.witness));
     }
+    Ok(())
 }

@@ -4,6 +4,8 @@
 use crate::told::{Told, tell};
 use console::{print_lengths, print_refusal};
 use spec::{ANSWER_ROOM, WITNESS_ROOM};
+use std::io;
+use std::io::Write;
 
 fn once(book: &[u8]) -> Told {
     let mut answer = [0u8; ANSWER_ROOM];
@@ -13,20 +15,17 @@ fn once(book: &[u8]) -> Told {
 
 fn rewrite_times(book: &[u8], times: u64) -> Told {
     let mut last = once(book);
-    let mut left = times;
-    while left > 1 {
-        let again = once(book);
-        last = again;
-        left -= 1;
+    for _ in 1..times {
+        last = once(book);
     }
     last
 }
 
-pub(crate) fn print_last(book: &[u8], times: u64) {
+pub(crate) fn print_last<W: Write>(out: &mut W, book: &[u8], times: u64) -> io::Result<()> {
     let told = rewrite_times(book, times);
     if told.number > 0 {
-        print_refusal(told.number, told.place);
+        print_refusal(out, told.number, told.place)
     } else {
-        print_lengths(told.answer, told.witness);
+        print_lengths(out, told.answer, told.witness)
     }
 }

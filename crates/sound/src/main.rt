@@ -3,12 +3,15 @@
 //     sound            standard input is a book
 //     sound many       standard input is many books, each after its length (4 bytes, little-endian)
 //     sound repeat     standard input is a book, read 10,000 times for timing: how often it was sound
+#![tactic(auto)]
+
 ghost use Rattle.std.specs.Prelude.{◌≤◌};
 
 use books::read_book;
-use check::same;
-use libc::{STDIN_FILENO, STDOUT_FILENO};
+use console::input::{fill, pass, size};
 use spec::{LONGEST_BOOK, Reading};
+use std::io;
+use std::io::{BufReader, BufWriter, Read, Write};
 
 // One byte more than the longest sound book: what a book has past that changes nothing, it is
 // refused with 2.
@@ -17,41 +20,44 @@ const ROOM: usize = LONGEST_BOOK + 1;
 // The first byte of the need: the stamp of entry 1.
 const NEED: usize = 22;
 
-fn print_reading(reading: Reading) {
+// How often `repeat` reads its book.
+const TIMES: u32 = 10000;
+
+fn print_reading<W: Write>(out: &mut W, reading: Reading) -> io::Result<()> {
     match reading {
-        Reading::Sound => {
-            io::write_all(STDOUT_FILENO, b"sound\n");
+        Reading::Sound => out.write_all(b"sound\n"),
+        Reading::Refused(why) => console::print_refusal(out, why.number, why.place),
+    }
+}
+
+fn one_book<R: Read, W: Write>(input: &mut R, out: &mut W) -> io::Result<()> {
+    let mut book = [0u8; ROOM];
+    let n = fill(input, &mut book, u64::MAX)?;
+    print_reading(out, read_book(&book[..n]))
+}
+
+// The next of many books; answers whether there was one. Its line is written as soon as it is known.
+fn next_book<R: Read, W: Write>(input: &mut R, out: &mut W) -> io::Result<bool> {
+    let Some(size) = size(input)? else {
+        return Ok(false);
+    };
+    let size = size as u64;
+    let mut book = [0u8; ROOM];
+    let n = fill(input, &mut book, size)?;
+    print_reading(out, read_book(&book[..n]))?;
+    out.flush()?;
+    pass(input, size - n as u64)?;
+    Ok(true)
+}
+
+// A proved loop has to end, and nothing says that the input does: no input uses up so many turns.
+fn many_books<R: Read, W: Write>(input: &mut R, out: &mut W) -> io::Result<()> {
+    for _ in 0..u64::MAX {
+        if !next_book(input, out)? {
+            break;
         }
-        Reading::Refused(why) => console::print_refusal(why.number, why.place),
     }
-}
-
-fn one_book() {
-    let mut book = [0u8; ROOM];
-    let n = io::read_full(STDIN_FILENO, &mut book);
-    print_reading(read_book(&book[..n]));
-}
-
-// The next of many books; answers whether there was one.
-fn next_book() -> bool {
-    let size = console::input::size();
-    if size == console::input::NO_MORE {
-        return false;
-    }
-    let mut book = [0u8; ROOM];
-    let n = console::input::fill(&mut book, size);
-    print_reading(read_book(&book[..n]));
-    console::input::pass(size - n as u64);
-    true
-}
-
-// A proved loop has to end, and nothing says that the input does: so it counts its turns down, from
-// a number that no input uses up.
-fn many_books() {
-    let mut turns = u64::MAX;
-    while turns > 0 && next_book() {
-        turns -= 1;
-    }
+    Ok(())
 }
 
 // Reads the book once more: 1 if it is sound, else 0. Each time another need stands in it, on which
@@ -71,29 +77,28 @@ fn read_again(book: &mut [u8], need: u32) -> u32
 
 fn read_repeatedly(book: &mut [u8]) -> u32 {
     let mut sound: u32 = 0;
-    let mut left: u32 = 10000;
-    while left > 0 {
-        sound += read_again(book, left);
-        left -= 1;
+    for turn in 0..TIMES {
+        sound += read_again(book, TIMES - turn);
     }
     sound
 }
 
-fn repeated() {
+fn repeated<R: Read, W: Write>(input: &mut R, out: &mut W) -> io::Result<()> {
     let mut book = [0u8; ROOM];
-    let n = io::read_full(STDIN_FILENO, &mut book);
-    io::print_decimal(STDOUT_FILENO, read_repeatedly(&mut book[..n]) as u64);
-    io::write_all(STDOUT_FILENO, b"\n");
+    let n = fill(input, &mut book, u64::MAX)?;
+    let sound = read_repeatedly(&mut book[..n]);
+    writeln!(out, "{sound}")
 }
 
-fn main() {
+fn main(rt: HostRuntime) -> io::Result<()> {
     let mut word = [0u8; 8];
-    let n = os::arg(1, &mut word);
-    if same(&word[..n], b"many") {
-        many_books();
-    } else if same(&word[..n], b"repeat") {
-        repeated();
-    } else {
-        one_book();
+    let n = console::words::word(&rt, 1, &mut word);
+    let mut input = BufReader::new(rt.alloc(), rt.reader())?;
+    let mut out = BufWriter::new(rt.alloc(), io::writer(&rt))?;
+    match &word[..n] {
+        b"many" => many_books(&mut input, &mut out)?,
+        b"repeat" => repeated(&mut input, &mut out)?,
+        _ => one_book(&mut input, &mut out)?,
     }
+    out.flush()
 }
