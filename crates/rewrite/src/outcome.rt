@@ -29,36 +29,34 @@ fn front(bytes: &[u8], n: usize) -> &[u8] {
     &bytes[..n]
 }
 
-// The listing or the refusal; answer and witness stand in the two areas then.
+// The listing or the refusal.
 fn print_answer<W: Write>(
     out: &mut W,
     book: &[u8],
-    answer: &mut [u8],
-    witness: &mut [u8],
-) -> io::Result<Told> {
-    let told = tell(book, answer, witness);
+    told: &Told,
+    answer: &[u8],
+    witness: &[u8],
+) -> io::Result<()> {
     if told.number > 0 {
-        print_refusal(out, told.number, told.place)?;
-    } else {
-        print_listing(
-            out,
-            book,
-            front(answer, told.answer),
-            front(witness, told.witness),
-        )?;
+        return print_refusal(out, told.number, told.place);
     }
-    Ok(told)
+    print_listing(
+        out,
+        book,
+        front(answer, told.answer),
+        front(witness, told.witness),
+    )
 }
 
 pub(crate) fn print_outcome<W: Write>(out: &mut W, book: &[u8]) -> io::Result<()> {
     let mut answer = [0u8; ANSWER_ROOM];
     let mut witness = [0u8; WITNESS_ROOM];
-    print_answer(out, book, &mut answer, &mut witness)?;
-    Ok(())
+    let told = tell(book, &mut answer, &mut witness);
+    print_answer(out, book, &told, &answer, &witness)
 }
 
-// The same; answer and witness are also written to the files that the second and the third word name.
-// On a refusal no file is touched.
+// The same; answer and witness are also written to the files that the second and the third word name,
+// whatever became of the listing. On a refusal no file is touched.
 pub(crate) fn store_outcome<R: Env + Files + Eprint, W: Write>(
     rt: &R,
     out: &mut W,
@@ -66,11 +64,13 @@ pub(crate) fn store_outcome<R: Env + Files + Eprint, W: Write>(
 ) -> io::Result<()> {
     let mut answer = [0u8; ANSWER_ROOM];
     let mut witness = [0u8; WITNESS_ROOM];
-    let told = print_answer(out, book, &mut answer, &mut witness)?;
-    out.flush()?;
+    let told = tell(book, &mut answer, &mut witness);
+    let printed = print_answer(out, book, &told, &answer, &witness);
+    let flushed = out.flush();
     if told.number == 0 {
         write_file(rt, 2, front(&answer, told.answer));
         write_file(rt, 3, front(&witness, told.witness));
     }
-    Ok(())
+    printed?;
+    flushed
 }
