@@ -13,7 +13,7 @@ use Rattle.spec.specs.Answer.{Rewrites}
 use Rattle.spec.proofs.Lists.Enumerate.{Enumerates}
 use Rattle.spec.proofs.Lists.Counted.{counted, counted-in, counted-out, counted-rising}
 use Rattle.spec.proofs.Decided.Rows.{RowList}
-use Rattle.containment.proofs.Normal.{shorten}
+use Rattle.containment.proofs.Shortened.{shorten}
 use Rattle.choice_theory.specs.Numbered.{row_at, WorksOn}
 use Rattle.choice_theory.proofs.Works.{works-more}
 use Rattle.choice_theory.proofs.Rewritten.{works-rewrites, rewrites-numbers}

@@ -123,12 +123,12 @@ module _ (s : Summaries) (q : Rule ℕ) (rows : RowList) where
 
   -- The end: none is left to take, and the rows taken are the answer.
   module _ (all : Enumerates (SummaryRow s q) RowBefore rows) {p : List ℕ} {from : ℕ} (g : PassState s q rows p from 0) where
-    whole : p ++ g.can.more ≡ p
-    whole = ap (◌++◌ p) (empty g.can.more g.can.few) ∙ append-nil p
-
     pub going-answer : Answer s q (rows_at rows p)
     going-answer = record { holds = works-rewrites s q rows all p (rw whole at (going-works g).1) (rw whole at (going-works g).0); least = least }
       where
+        whole : p ++ g.can.more ≡ p
+        whole = ap (◌++◌ p) (empty g.can.more g.can.few) ∙ append-nil p
+
         least : (l : RowList) → Rewrites s q l → (rows_at rows p ≡ l) ⊎ ShorterFirst (rows_at rows p) l
         least l r = let w = rewrites-numbers s q rows all l r in subst (λ z. (rows_at rows p ≡ z) ⊎ ShorterFirst (rows_at rows p) z) w.2 (compare w.0 w.1 w.3 (numbers-compare (length p) (length w.0)))
           where

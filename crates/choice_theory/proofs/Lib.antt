@@ -8,3 +8,4 @@ pub mod Rewritten
 pub mod Sets
 pub mod Targets
 pub mod Works
+pub mod WorksExactly

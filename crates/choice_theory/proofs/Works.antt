@@ -1,6 +1,5 @@
 -- The question works on row numbers exactly if it maps into the expansion of the list of those rows: uses are renumbered by their places.
 use mathlib.Core.Path.{◌≡◌, refl, sym, ap, ◌∙◌, subst, fun_ext}
-use mathlib.Core.Logic.{◌↔◌}
 use mathlib.Core.List.{List, map}
 use Prim.Native.Nat.{ℕ, ◌<◌}
 use native.Mathlib.Nat.{add-zero}
@@ -59,7 +58,3 @@ module _ (s : Summaries) (q : Rule ℕ) (rows : RowList) where
               chosen = get_or-in 0 ns w.by short;
               inside = rw same (renumbered s w.of w.by (get_or ns w.by 0) ξ (λ x. refl) (λ x. refl) c (rw add-zero at w.inside));
             }
-
-    -- The law of numbers.
-    pub works-is : ((u : ℕ) → u ∈ ns → u < length rows) → WorksOn s q rows (InRowList ns) ↔ Mapping q (expansion s (rewriting q (rows_at rows ns)))
-    works-is within = (works-maps, maps-works within)

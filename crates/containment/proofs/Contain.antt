@@ -17,20 +17,22 @@ Contained arities q r = (d : List (Subgoal ℕ)) → AllFit arities d → (row :
 abbrev pub YieldSame : {X Y : Type 0} → List ℕ → Rule X → Rule Y → Type 0
 YieldSame arities q r = (d : List (Subgoal ℕ)) → AllFit arities d → (row : List ℕ) → Yields itself q (Listed d) row ↔ Yields itself r (Listed d) row
 
--- Each rule has its own variables, of any type; those of a rule that is frozen can be told apart.
-pub mapping-contains : {X Y : Type 0} (arities : List ℕ) → Eq Y → (q : Rule X) (r : Rule Y) → AllFit arities r.body → Mapping q r ↔ Contained arities q r
-mapping-contains arities e q r fit = (λ m d f row y. contains m y, back)
+-- Where r contains q, the frozen body of r shows a mapping.
+contained-maps : {X Y : Type 0} (arities : List ℕ) → Eq Y → (q : Rule X) (r : Rule Y) → AllFit arities r.body → Contained arities q r → Mapping q r
+contained-maps arities e q r fit c =
+    converse e base r (below-high base r (omega arith)) q (below-high base q (omega arith))
+    (c (frozen e base r) (fit-each arities (becomes itself (freeze e base r)) r.body fit) (frozen_row e base r) (yields-frozen e base r))
   where
     base : ℕ
     base = high q + high r
 
-    back : Contained arities q r → Mapping q r
-    back c = converse e base r (below-high base r (omega arith)) q (below-high base q (omega arith))
-        (c (frozen e base r) (fit-each arities (becomes itself (freeze e base r)) r.body fit) (frozen_row e base r) (yields-frozen e base r))
+-- Each rule has its own variables, of any type; those of a rule that is frozen can be told apart.
+pub mapping-contains : {X Y : Type 0} (arities : List ℕ) → Eq Y → (q : Rule X) (r : Rule Y) → AllFit arities r.body → Mapping q r ↔ Contained arities q r
+mapping-contains arities e q r fit = (λ m d f row y. contains m y, contained-maps arities e q r fit)
 
 pub mappings-same : {X Y : Type 0} (arities : List ℕ) → Eq X → Eq Y → (q : Rule X) (r : Rule Y) → AllFit arities q.body → AllFit arities r.body
     → (Mapping q r × Mapping r q) ↔ YieldSame arities q r
 mappings-same arities e_x e_y q r fitq fitr = (
   λ m d f row. (λ y. contains m.1 y, λ y. contains m.0 y),
-  λ same. ((mapping-contains arities e_y q r fitr).1 (λ d f row. (same d f row).1), (mapping-contains arities e_x r q fitq).1 (λ d f row. (same d f row).0)),
+  λ same. (contained-maps arities e_y q r fitr (λ d f row. (same d f row).1), contained-maps arities e_x r q fitq (λ d f row. (same d f row).0)),
 )

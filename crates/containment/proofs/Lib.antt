@@ -3,6 +3,7 @@ pub mod Carry
 pub mod Contain
 pub mod Demand3
 pub mod Differ
+pub mod DiffersFirst
 pub mod Expand
 pub mod Extend
 pub mod Fit
@@ -10,8 +11,10 @@ pub mod Freeze
 pub mod Held
 pub mod ListsOfRows
 pub mod Normal
+pub mod OverSuits
 pub mod Part
 pub mod Places
 pub mod Same
+pub mod Shortened
 pub mod Sound
 pub mod Suit

@@ -9,7 +9,7 @@ use Prim.Native.Nat.{ℕ, suc, ◌≤◌}
 use native.Mathlib.Omega.{arith}
 use lib.ListN.{length}
 use Rattle.spec.specs.Words.{◌∈◌, Term, Subgoal, Rule, Mapping}
-use Rattle.spec.specs.Summaries.{Summaries, expansion, OverAll, Equivalent, rewriting}
+use Rattle.spec.specs.Summaries.{Summaries, expansion, rewriting}
 use Rattle.spec.specs.Order.{ShorterFirst}
 use Rattle.spec.specs.Answer.{Rewrites, Answer}
 use Rattle.spec.proofs.Decided.Equal.{eq_number, eq_own}
@@ -21,9 +21,7 @@ use Rattle.spec.proofs.Lists.Sublists.{sublists, is-sublist}
 use Rattle.spec.proofs.Lists.Sorted.{insert, sorted, sorted-in, sorted-out, sorted-rising}
 use Rattle.spec.proofs.Decided.Sound.{AllSafe}
 use Rattle.spec.proofs.Decided.Rows.{all_rows, all_rows-sound, all_rows-complete, all_rows-ascending, all_rows-enumerate}
-use Rattle.containment.proofs.Suit.{SuitAll, row-suits, DistinctHeads, suits-over, over-suit-all}
-use Rattle.containment.proofs.ListsOfRows.{AllRows, rows_back, there-more, image-of}
-use Rattle.containment.proofs.Part.{part}
+use Rattle.containment.proofs.ListsOfRows.{AllRows, rows_back, there-more}
 
 module _ {A : Type 0} {Before : A → A → Type 0} (o : Strict Before) where
   insert-few : (a : A) (l : List A) → length (insert o a l) ≤ suc (length l)
@@ -68,16 +66,6 @@ put-in-order s q l rows there = record {
     rows' : AllRows s q (sorted row_order l)
     rows' g m = rows g (sorted-out row_order l g m)
 
--- "It has at most as many subgoals as the question": an equivalent list contains such a one.
-pub shorten : (s : Summaries) (q : Rule ℕ) (l : List (Subgoal (Term ℕ))) → Rewrites s q l → OrderedIn s q l (length q.body)
-shorten s q l w =
-    let p = part s q l (λ g m. row-suits g (w.rows g m)) w.equivalent.there in
-    let o = put-in-order s q p.list (λ g m. w.rows g (p.within g m)) p.there in
-    record {
-      ordered = record { list = o.ordered.list; rewrites = o.ordered.rewrites; few = omega (arith, o.ordered.few, p.long) };
-      within = λ g m. p.within g (o.within g m);
-    }
-
 -- The answer has no more rows than any other equivalent list.
 pub answer-least : (s : Summaries) (q : Rule ℕ) (l m : List (Subgoal (Term ℕ))) → Answer s q l → Rewrites s q m → length l ≤ length m
 answer-least s q l m a w = go (a.least m w)
@@ -86,27 +74,6 @@ answer-least s q l m a w = go (a.least m w)
     go (inl e) = rw e (omega arith)
     go (inr (inl h)) = omega arith
     go (inr (inr h)) = omega arith
-
-pub answer-few : (s : Summaries) (q : Rule ℕ) (l : List (Subgoal (Term ℕ))) → Answer s q l → length l ≤ length q.body
-answer-few s q l a = let o = (shorten s q l a.holds).ordered in omega (arith, answer-least s q l o.list a o.rewrites, o.few)
-
--- Any equivalent rewriting whose subgoals suit their summaries, with variables of any type.
-pub normal : {X : Type 0} (s : Summaries) (q : Rule ℕ) (p : Rule X) → SuitAll s p → Equivalent s q p → OrderedList s q (length p.body)
-normal s q p suits e =
-    let i = image-of s q p suits e in
-    let o = (put-in-order s q i.0.list i.0.rows i.1).ordered in
-    record { list = o.list; rewrites = o.rewrites; few = omega (arith, o.few, i.0.long) }
-
--- Any over admitted summaries, heads of distinct variables.
-pub normal-over : {X : Type 0} (s : Summaries) → DistinctHeads s → (q : Rule ℕ) (p : Rule X) → OverAll s p → Equivalent s q p → OrderedList s q (length p.body)
-normal-over s distinct q p over = normal s q p (over-suit-all s distinct p over)
-
--- So 'no equivalent rewriting' (refusal 10) and 'no equivalent list of summary rows' are one.
-pub any-rewriting : (s : Summaries) → DistinctHeads s → (q : Rule ℕ) → ((p : Rule ℕ) × OverAll s p × Equivalent s q p) ↔ ((l : List (Subgoal (Term ℕ))) × Rewrites s q l)
-any-rewriting s distinct q = (
-  λ w. let o = normal-over s distinct q w.0 w.1 w.2 in (o.list, o.rewrites),
-  λ w. (rewriting q w.0, λ g m. suits-over s g (row-suits g (w.1.rows g m)), w.1.equivalent),
-)
 
 -- The list of all rows decides whether any list works.
 pub all-rows-decide : (s : Summaries) (q : Rule ℕ) → AllSafe s → ((l : List (Subgoal (Term ℕ))) × Rewrites s q l) ↔ Mapping q (expansion s (rewriting q (all_rows s q)))

@@ -19,7 +19,7 @@ use Rattle.spec.proofs.Bytes.Refused.{sound-unrefused}
 use Rattle.containment.proofs.Demand3.{demand3}
 use Rattle.containment.proofs.Alone.{left-out-admitted, left-out-no-say}
 use Rattle.containment.proofs.Sound.{rule_of}
-use Rattle.containment.proofs.Normal.{answer-few}
+use Rattle.containment.proofs.Shortened.{answer-few}
 use Rattle.outcomes.proofs.Grants.{value-granted}
 
 module _ {book : List ℕ} {answer witness : ℕ} (g : Given book answer witness) where

@@ -7,7 +7,7 @@ use Rattle.spec.specs.Summaries.{HoldJust, Equivalent}
 use Rattle.spec.specs.Book.{admitted_of}
 use Rattle.spec.specs.Truth.{Truth}
 use Rattle.spec.proofs.Decided.WitnessExists.{there-maps, back-maps}
-use Rattle.containment.proofs.Suit.{over-suit-all}
+use Rattle.containment.proofs.OverSuits.{over-suit-all}
 use Rattle.containment.proofs.Same.{equivalent-held}
 use Rattle.containment.proofs.Sound.{sound-distinct}
 use Rattle.outcomes.proofs.Grants.{value-granted}
