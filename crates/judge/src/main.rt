@@ -13,13 +13,13 @@ use crate::files::judge_files;
 use crate::stream::judge_many;
 use console::words::{is_there, word};
 use std::io;
-use std::io::{BufReader, BufWriter, Write};
+use std::io::Write;
 
 fn main(rt: HostRuntime) -> io::Result<()> {
     let mut first = [0u8; 8];
     let n = word(&rt, 1, &mut first);
-    let mut input = BufReader::new(rt.alloc(), rt.reader())?;
-    let mut out = BufWriter::new(rt.alloc(), io::writer(&rt))?;
+    let mut input = rt.reader();
+    let mut out = io::writer(&rt);
     if is_there(&rt, 3) && !is_there(&rt, 4) {
         judge_files(&rt, &mut out)?;
         return out.flush();

@@ -21,7 +21,7 @@ use spec::LONGEST_BOOK;
 use std::env::Env;
 use std::fs::Files;
 use std::io;
-use std::io::{BufReader, BufWriter, Read, Write};
+use std::io::{Read, Write};
 
 // One byte more than the longest sound book: what a book has past that changes nothing, it is
 // refused with 2.
@@ -96,8 +96,8 @@ fn many_books<R: Read, W: Write>(input: &mut R, out: &mut W, form: Form) -> io::
 fn main(rt: HostRuntime) -> io::Result<()> {
     let mut word = [0u8; 8];
     let n = console::words::word(&rt, 1, &mut word);
-    let mut input = BufReader::new(rt.alloc(), rt.reader())?;
-    let mut out = BufWriter::new(rt.alloc(), io::writer(&rt))?;
+    let mut input = rt.reader();
+    let mut out = io::writer(&rt);
     match &word[..n] {
         b"many" => many_books(&mut input, &mut out, Form::Listing)?,
         b"areas" => many_books(&mut input, &mut out, Form::Areas)?,

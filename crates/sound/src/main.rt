@@ -11,7 +11,7 @@ use books::read_book;
 use console::input::{fill, pass, size};
 use spec::{LONGEST_BOOK, Reading};
 use std::io;
-use std::io::{BufReader, BufWriter, Read, Write};
+use std::io::{Read, Write};
 
 // One byte more than the longest sound book: what a book has past that changes nothing, it is
 // refused with 2.
@@ -93,8 +93,8 @@ fn repeated<R: Read, W: Write>(input: &mut R, out: &mut W) -> io::Result<()> {
 fn main(rt: HostRuntime) -> io::Result<()> {
     let mut word = [0u8; 8];
     let n = console::words::word(&rt, 1, &mut word);
-    let mut input = BufReader::new(rt.alloc(), rt.reader())?;
-    let mut out = BufWriter::new(rt.alloc(), io::writer(&rt))?;
+    let mut input = rt.reader();
+    let mut out = io::writer(&rt);
     match &word[..n] {
         b"many" => many_books(&mut input, &mut out)?,
         b"repeat" => repeated(&mut input, &mut out)?,
