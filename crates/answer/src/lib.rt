@@ -18,7 +18,7 @@ use witness::back::put_back;
 use witness::there::put_there;
 
 // The lengths of answer and witness.
-#[derive(Drop)]
+#[derive(Clone, Copy)]
 pub struct Lengths {
     pub answer: usize,
     pub witness: usize,

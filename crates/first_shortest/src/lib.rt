@@ -18,7 +18,7 @@ use spec::{MOST_ROWS, QUESTION_GOALS};
 const TOO_FEW: usize = QUESTION_GOALS + 1;
 
 // How many rows are chosen, and their numbers, in order; or that no list of rows will do.
-#[derive(Drop)]
+#[derive(Clone, Copy)]
 pub struct Chosen {
     pub ok: bool,
     pub k: usize,

@@ -17,7 +17,7 @@ use rule_codes::places::head_count;
 use summary_rows::{Tally, rows_of};
 
 // All summary rows, so many; or there are more than 64.
-#[derive(Drop)]
+#[derive(Clone, Copy)]
 pub enum RowsListed {
     All(usize),
     Over,

@@ -16,7 +16,7 @@ use codes::{SUBGOAL_CODES, USES_GOALS};
 use spec::MOST_ROWS;
 
 // How many rows stand in the table, and whether there are more than it may have.
-#[derive(Drop)]
+#[derive(Clone, Copy)]
 pub struct Tally {
     pub over: bool,
     pub count: usize,
