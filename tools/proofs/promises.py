@@ -22,7 +22,7 @@ for path in glob.glob("crates/*/**/*", recursive=True):
         text = file.read()
     known |= set(re.findall(r"[^\s(){}\[\];,.:⌜⌝]+", text))
     if kind == ".rt":
-        public += [(path, f) for f in re.findall(r'^pub (?:extern "C" )?fn (\w+)', text, re.M)]
+        public += [(path, f) for f in re.findall(r'^ *pub (?:extern "C" )?fn (\w+)', text, re.M)]
 
 quotes = re.findall(r"`([^`\n]+)`", promises)
 named = {word for quoted in quotes for word in re.findall(r"\w+", quoted)}

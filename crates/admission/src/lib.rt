@@ -8,8 +8,6 @@ ghost use Rattle.spec.specs.LeadSays.{lead_says};
 
 pub mod summaries; // whether a summary of a sound book is admitted
 
-use spec::Lead;
-
 // "the ring 1 to 4,294,967,295"
 const RING: u32 = 4294967295;
 
@@ -21,48 +19,38 @@ fn steps(need: u32, stamp: u32) -> u32
     requires { 1 ≤ need }
     ensures { result ≡ distance need stamp }
 {
-    let turned = std::num::wrapping_sub_u32(stamp, need);
+    let turned = stamp.wrapping_sub(need);
     // The ring has no 0: past its end it is one step fewer.
-    if stamp < need {
-        return turned - 1;
-    }
-    turned
+    if stamp < need { turned - 1 } else { turned }
 }
 
-pub fn lead_of(need: u32, stamp: u32) -> Lead
+// The lead of a stamp; that of a summary never filled is none.
+pub fn lead_of(need: u32, stamp: u32) -> Option<i32>
     ensures { lead_says result ≡ lead need stamp }
 {
     if stamp == 0 {
-        return Lead::Unfilled;
+        return None;
     }
     if need == 0 {
-        return Lead::Ahead(0);
+        return Some(0);
     }
     let distance = steps(need, stamp);
     if distance <= HIGHEST_LEAD {
-        return Lead::Ahead(distance as i32);
+        return Some(distance as i32);
     }
     let behind = (RING - distance) as i32;
-    let lead = -behind;
-    Lead::Ahead(lead)
+    Some(-behind)
 }
 
 pub fn is_admitted(need: u32, stamp: u32) -> bool
     ensures { (rule : Rule ℕ) → result ≡ admitted need stamp rule }
 {
-    match lead_of(need, stamp) {
-        Lead::Ahead(by) => 0 <= by,
-        Lead::Unfilled => false,
-    }
+    lead_of(need, stamp).is_some_and(|by| 0 <= by)
 }
 
-// A lead without its sign, for programs that print it. It is taken at 64 bits, where the negation of every i32 fits.
+// A lead without its sign, for programs that print it.
 pub fn size_of(lead: i32) -> u64
     ensures { result ≡ unsigned_abs lead }
 {
-    if lead < 0 {
-        (0 - (lead as i64)) as u64
-    } else {
-        lead as u64
-    }
+    u64::from(lead.unsigned_abs())
 }

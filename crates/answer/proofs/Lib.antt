@@ -3,5 +3,6 @@ pub mod Means
 pub mod PickMeans
 pub mod Picks
 pub mod PutLaws
+pub mod RowWalk
 pub mod RuleStores
 pub mod Unique

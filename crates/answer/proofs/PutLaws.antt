@@ -1,12 +1,13 @@
 -- Answer and witness written: what the areas then hold is what is given.
-use mathlib.Core.Path.{◌≡◌, sym, ap, ◌∙◌}
+use mathlib.Core.Path.{◌≡◌, refl, sym, ap, subst, ◌∙◌}
 use mathlib.Core.Logic.{inl, inr}
-use mathlib.Core.List.{List, ◌++◌, map}
-use Prim.Native.Nat.{ℕ, ◌+◌, ◌*◌, ◌<◌, ◌≤◌}
+use mathlib.Core.List.Memᴰ
+use mathlib.Core.List.{List, [], ◌∷◌, ◌++◌, map}
+use Prim.Native.Nat.{ℕ, zero, suc, ◌+◌, ◌*◌, ◌<◌, ◌≤◌}
 use native.Mathlib.Omega.{arith}
 use native.Mathlib.Decide.{dec_lt}
 use lib.ListN.{length, get_or, take, length-append, length-map}
-use lib.Seq.{sets, length-sets, take-append-le, take_all}
+use lib.Seq.{sets, length-sets, take_all}
 use Rattle.spec.specs.Words.{◌∈◌, Term, con, Subgoal, Rule, becomes}
 use Rattle.spec.specs.Book.{Book}
 use Rattle.spec.specs.Result.{Answered}
@@ -23,7 +24,7 @@ use Rattle.spec.proofs.Bytes.Sizes.{terms-size}
 use Rattle.spec.proofs.Lists.Stores.{sets-next, stored-front}
 use Rattle.outcomes.proofs.Rooms.{answer-fits, witness-fits}
 use Rattle.outcomes.proofs.Bounds.{book-bounds}
-use Rattle.codes.specs.Code.{term_code, subgoal_codes, codes_of, widths_of}
+use Rattle.codes.specs.Code.{term_code, subgoal_codes, widths_of}
 use Rattle.codes.proofs.Padded.{codes-length, padded-length}
 use Rattle.book_codes.specs.RowGiven.{RowOf, RowGiven}
 use Rattle.book_codes.specs.RowsGiven.{RowsOf}
@@ -49,25 +50,29 @@ module _ {answer witness : ℕ} (room : Fault1 answer witness → ⊥) where
     | no h ↦ omega arith
   ]
 
-module _ {book codes widths : List ℕ} {k answer witness : ℕ} (p : PutNeeds book codes widths k answer witness) where
+-- no width is above 8
+small-widths : (l : List (Subgoal (Term ℕ))) → ((g : Subgoal (Term ℕ)) → g ∈ l → length g.terms ≤ 8) → (r : ℕ) → get_or (widths_of l) r 0 ≤ 8
+small-widths [] h r = omega arith
+small-widths (g ∷ l) h zero = h g (Memᴰ.head refl)
+small-widths (g ∷ l) h (suc r) = small-widths l (λ k m. h k (Memᴰ.tail m)) r
+
+module _ {book codes widths : List ℕ} {answer witness : ℕ} (p : PutNeeds book codes widths answer witness) where
   abbrev b : Book
   b = p.value
 
   abbrev l : List (Subgoal (Term ℕ))
   l = p.list
 
-  codes-front : take (9 * k) codes ≡ codes_of term_code l
-  codes-front =
-      let n : length (codes_of term_code l) ≡ 9 * k = omega (arith, codes-length term_code l, p.count) in
-      ap (take (9 * k)) p.codes_are ∙ take-append-le (9 * k) (codes_of term_code l) p.rest (omega arith) ∙ take_all (9 * k) (codes_of term_code l) (omega arith)
+  counted : length l ≡ length widths
+  counted = sym (ap length p.widths_are ∙ length-map l (λ g. length g.terms))
 
-  rows_of : RowsOf book codes k b l
-  rows_of = summary-rows b l p.sound p.answers.holds.rows p.count codes-front
+  rows_of : RowsOf book codes (length widths) b l
+  rows_of = summary-rows b l p.sound p.answers.holds.rows counted (take_all (9 * length widths) codes (omega (arith, ap length p.codes_are, codes-length term_code l, counted)) ∙ p.codes_are)
 
-  few-of : FewRowsOf book codes k b l
-  few-of = record { rows_of = rows_of; few = p.short }
+  few-of : FewRowsOf book codes (length widths) b l
+  few-of = record { rows_of = rows_of; few = omega (arith, counted, p.short) }
 
-  pub tells : WitnessNeeds book codes k
+  pub tells : WitnessNeeds book codes (length widths)
   tells = record { some = record { value = b; list = l; is = few-of }; serves = p.answers.holds.equivalent }
 
   pub question-there : Loads book × (1 < entries_in book)
@@ -100,7 +105,7 @@ module _ {book codes widths : List ℕ} {k answer witness : ℕ} (p : PutNeeds b
   body_is : {body : List ℕ} → body ≡ part_at book 1 → rule_bytes b.question ≡ body
   body_is e = sym (e ∙ question-part p.sound)
 
-  pub writable : {body out : List ℕ} → body ≡ part_at book 1 → length out ≡ answer → RuleBytesNeeds out body codes widths k
+  pub writable : {body out : List ℕ} → body ≡ part_at book 1 → length out ≡ answer → RuleBytesNeeds out body codes widths
   writable {body} e same =
       let short = p.sound.value.question.within.short in
       let head : get_or body 0 0 ≡ length b.question.head = ap (λ y. get_or y 0 0) (sym (body_is e)) in
@@ -109,19 +114,18 @@ module _ {book codes widths : List ℕ} {k answer witness : ℕ} (p : PutNeeds b
         room = omega (arith, answer-room p.room);
         short = omega arith;
         head = omega (arith, terms-size b.question.head, length-append (terms_bytes b.question.head) (subgoals_bytes b.question.body));
-        few = p.short;
+        few = omega (arith, counted, p.short);
         rows = record {
-          stand = omega (arith, ap length p.codes_are, length-append (codes_of term_code l) p.rest, codes-length term_code l, p.count);
-          told = omega (arith, ap length p.widths_are, length-append (widths_of l) p.more, length-map l (λ g. length g.terms), p.count);
-          narrow = p.narrow;
+          stand = omega (arith, ap length p.codes_are, codes-length term_code l, counted);
+          narrow = λ r. subst (λ w. get_or w r 0 ≤ 8) (sym p.widths_are) (small-widths l (λ g m. (row-writes g m).narrow) r);
         };
       }
 
-module _ {book codes widths : List ℕ} {k : ℕ} (a w : List ℕ) (p : PutNeeds book codes widths k (length a) (length w)) where
+module _ {book codes widths : List ℕ} (a w : List ℕ) (p : PutNeeds book codes widths (length a) (length w)) where
   abbrev q : Rule ℕ
   q = p.value.question
 
-  module _ {w₁ w₂ : List ℕ} {m n : ℕ} (there : ThereSays book codes k w w₁ m) (back : BackSays book codes k m w₁ w₂ n) where
+  module _ {w₁ w₂ : List ℕ} {m n : ℕ} (there : ThereSays book codes (length widths) w w₁ m) (back : BackSays book codes (length widths) m w₁ w₂ n) where
     goes : ThereOf p.value p.list w w₁ m
     goes = there.is p.value p.list (few-of p) p.answers.holds.equivalent
 
@@ -139,9 +143,9 @@ module _ {book codes widths : List ℕ} {k : ℕ} (a w : List ℕ) (p : PutNeeds
         returns.written ∙ ap (λ x. sets x m returns.bytes) goes.written ∙ sets-next w 0 m goes.bytes returns.bytes (omega (arith, goes.long))
         ∙ stored-front (goes.bytes ++ returns.bytes) w (omega (arith, witness-fits given, witness-room p.room))
 
-    module _ {a₁ body : List ℕ} {o : ℕ} (part : body ≡ part_at book 1) (stored : a₁ ≡ sets a 0 (rewriting_bytes body codes widths k)) (long : o ≡ length (rewriting_bytes body codes widths k)) where
-      answer-is : rewriting_bytes body codes widths k ≡ answer_bytes q result
-      answer-is = ap (rewriting_bytes body codes widths) (sym p.count) ∙ rewriting-means q body codes widths p.list p.rest p.more (body_is p part) (row-writes p) p.codes_are p.widths_are
+    module _ {a₁ body : List ℕ} {o : ℕ} (part : body ≡ part_at book 1) (stored : a₁ ≡ sets a 0 (rewriting_bytes body codes widths)) (long : o ≡ length (rewriting_bytes body codes widths)) where
+      answer-is : rewriting_bytes body codes widths ≡ answer_bytes q result
+      answer-is = rewriting-means q body codes widths p.list (body_is p part) (row-writes p) p.codes_are p.widths_are
 
       answer-holds : a₁ ≡ at_front (answer_bytes q result) a
       answer-holds = stored ∙ ap (sets a 0) answer-is ∙ stored-front (answer_bytes q result) a (omega (arith, answer-fits given, answer-room p.room))
@@ -156,11 +160,11 @@ module _ {book codes widths : List ℕ} {k : ℕ} (a w : List ℕ) (p : PutNeeds
       }
 
 -- both parts are short
-pub lengths-fit : {book codes widths : List ℕ} {k answer witness : ℕ} (p : PutNeeds book codes widths k answer witness) {w w₁ w₂ : List ℕ} {m n : ℕ} → ThereSays book codes k w w₁ m → BackSays book codes k m w₁ w₂ n → (m ≤ 24) × (n ≤ 96)
+pub lengths-fit : {book codes widths : List ℕ} {answer witness : ℕ} (p : PutNeeds book codes widths answer witness) {w w₁ w₂ : List ℕ} {m n : ℕ} → ThereSays book codes (length widths) w w₁ m → BackSays book codes (length widths) m w₁ w₂ n → (m ≤ 24) × (n ≤ 96)
 lengths-fit p there back = ((there.is p.value p.list (few-of p) p.answers.holds.equivalent).few, (back.is p.value p.list (few-of p) p.answers.holds.equivalent).few)
 
 -- there is room left behind the first part
-pub there-kept : {book codes widths : List ℕ} {k answer : ℕ} (w : List ℕ) (p : PutNeeds book codes widths k answer (length w)) {w₁ : List ℕ} {m : ℕ} → ThereSays book codes k w w₁ m → m + 96 ≤ length w₁
+pub there-kept : {book codes widths : List ℕ} {answer : ℕ} (w : List ℕ) (p : PutNeeds book codes widths answer (length w)) {w₁ : List ℕ} {m : ℕ} → ThereSays book codes (length widths) w w₁ m → m + 96 ≤ length w₁
 there-kept w p {w₁} {m} there =
     let t = there.is p.value p.list (few-of p) p.answers.holds.equivalent in
     let few = t.few in

@@ -1,5 +1,5 @@
 -- Codes as the bytes that are written for them.
-use Rattle.std.specs.Prelude.{cond, List, [], ◌∷◌, ◌++◌, map, ℕ, zero, suc, ◌+◌, ◌*◌, ◌%◌, ◌≤◌, ltb, length, get_or, take, drop}
+use Rattle.std.specs.Prelude.{cond, List, [], ◌∷◌, ◌++◌, map, ℕ, ◌+◌, ◌*◌, ◌%◌, ◌≤◌, ltb, length, get_or, take, drop}
 use Rattle.spec.specs.Summaries.{joined}
 use Rattle.spec.specs.Numbers.{little}
 use Rattle.spec.specs.Table.{answer_room}
@@ -18,29 +18,28 @@ code_bytes code = tag_of code ∷ little 4 (code % 4294967296)
 abbrev pub codes_bytes : List ℕ → List ℕ
 codes_bytes codes = joined (map code_bytes codes)
 
--- "a summary number in each subgoal where a relation number stood": the row r, of so many terms
-abbrev pub row_bytes : List ℕ → ℕ → ℕ → List ℕ
-row_bytes codes r wide = get_or codes (subgoal_size * r) 0 % 256 ∷ codes_bytes (take wide (drop (subgoal_size * r + 1) codes))
+-- "a summary number in each subgoal where a relation number stood": a row's codes, of so many terms
+abbrev pub row_bytes : List ℕ → ℕ → List ℕ
+row_bytes row wide = get_or row 0 0 % 256 ∷ codes_bytes (take wide (drop 1 row))
 
--- k rows from r on
-abbrev pub rows_bytes : List ℕ → List ℕ → ℕ → ℕ → List ℕ
-rows_bytes codes widths r zero = []
-rows_bytes codes widths r (suc k) = row_bytes codes r (get_or widths r 0) ++ rows_bytes codes widths (suc r) k
+-- rows one after the other, nine codes each, by their widths
+abbrev pub rows_bytes : List ℕ → List ℕ → List ℕ
+rows_bytes codes [] = []
+rows_bytes codes (wide ∷ widths) = row_bytes (take subgoal_size codes) wide ++ rows_bytes (drop subgoal_size codes) widths
 
--- k rows stand in the codes, none of more than eight terms
-pub record RowsStand (codes widths : List ℕ) (k : ℕ) : Type 0 where
-  pub stand : subgoal_size * k ≤ length codes
-  pub told : k ≤ length widths
+-- the rows stand in the codes, none of more than eight terms
+pub record RowsStand (codes widths : List ℕ) : Type 0 where
+  pub stand : subgoal_size * length widths ≤ length codes
   pub narrow : (r : ℕ) → get_or widths r 0 ≤ most_arity
 
--- the question's head, then k rows
-abbrev pub rewriting_bytes : List ℕ → List ℕ → List ℕ → ℕ → List ℕ
-rewriting_bytes body codes widths k = get_or body 0 0 ∷ k ∷ (take (5 * get_or body 0 0) (drop 2 body) ++ rows_bytes codes widths 0 k)
+-- the question's head, then the rows
+abbrev pub rewriting_bytes : List ℕ → List ℕ → List ℕ → List ℕ
+rewriting_bytes body codes widths = get_or body 0 0 ∷ length widths ∷ (take (5 * get_or body 0 0) (drop 2 body) ++ rows_bytes codes widths)
 
 -- there is room for the longest rewriting, and the question's head and the rows stand where they are read
-pub record RuleBytesNeeds (out body codes widths : List ℕ) (k : ℕ) : Type 0 where
+pub record RuleBytesNeeds (out body codes widths : List ℕ) : Type 0 where
   pub room : answer_room ≤ length out
   pub short : get_or body 0 0 ≤ most_head
   pub head : 2 + 5 * get_or body 0 0 ≤ length body
-  pub few : k ≤ question_most
-  pub rows : RowsStand codes widths k
+  pub few : length widths ≤ question_most
+  pub rows : RowsStand codes widths

@@ -1,25 +1,26 @@
 -- The codes and widths of rows picked from the codes of all rows.
-use Rattle.std.specs.Prelude.{cond, List, [], ◌∷◌, ◌++◌, ℕ, zero, suc, ◌+◌, ◌*◌, ◌<◌, ◌≤◌, eqb, length, get_or, take, drop}
-use Rattle.spec.specs.BookLayout.{most_arity, question_most}
+use Rattle.std.specs.Prelude.{◌≡◌, List, map, ℕ, ◌+◌, ◌*◌, ◌<◌, ◌≤◌, eqb, length, get_or, take, drop}
+use Rattle.std.specs.List.{position_or_len}
+use Rattle.spec.specs.Summaries.{joined}
 use Rattle.codes.specs.Code.{subgoal_size}
 
--- how many of at most n codes from `at` on stand before a code of 1
-unfoldable pub width_in : List ℕ → ℕ → ℕ → ℕ
-width_in codes at zero = 0
-width_in codes at (suc n) = cond (eqb (get_or codes at 0) 1) 0 (suc (width_in codes (suc at) n))
+-- the nine codes of row r
+abbrev pub row_codes : List ℕ → ℕ → List ℕ
+row_codes codes r = take subgoal_size (drop (subgoal_size * r) codes)
 
--- the nine codes of each of n rows, named from i on
-abbrev pub picked_codes : List ℕ → List ℕ → ℕ → ℕ → List ℕ
-picked_codes codes rows i zero = []
-picked_codes codes rows i (suc n) = take subgoal_size (drop (subgoal_size * get_or rows i 0) codes) ++ picked_codes codes rows (suc i) n
+-- how many of a row's eight terms stand before a code of 1
+abbrev pub width_in : List ℕ → ℕ
+width_in terms = position_or_len (λ code. eqb code 1) terms
 
-abbrev pub picked_widths : List ℕ → List ℕ → ℕ → ℕ → List ℕ
-picked_widths codes rows i zero = []
-picked_widths codes rows i (suc n) = width_in codes (subgoal_size * get_or rows i 0 + 1) most_arity ∷ picked_widths codes rows (suc i) n
+-- of each row picked its nine codes, and its width
+abbrev pub picked_codes : List ℕ → List ℕ → List ℕ
+picked_codes codes rows = joined (map (row_codes codes) rows)
 
--- the rows named stand in the codes, and there is room for them
-pub record PickNeeds (codes rows : List ℕ) (k : ℕ) (out widths : List ℕ) : Type 0 where
-  pub few : k ≤ question_most
-  pub stand : (i : ℕ) → i < k → subgoal_size * get_or rows i 0 + subgoal_size ≤ length codes
-  pub room : subgoal_size * k ≤ length out
-  pub told : k ≤ length widths
+abbrev pub picked_widths : List ℕ → List ℕ → List ℕ
+picked_widths codes rows = map (λ r. width_in (drop 1 (row_codes codes r))) rows
+
+-- the rows named stand in the codes, and there is just the room for them
+pub record PickNeeds (codes rows : List ℕ) (out widths : ℕ) : Type 0 where
+  pub stand : (i : ℕ) → i < length rows → subgoal_size * get_or rows i 0 + subgoal_size ≤ length codes
+  pub room : out ≡ subgoal_size * length rows
+  pub told : widths ≡ length rows

@@ -5,6 +5,9 @@ ghost use Rattle.std.specs.Prelude.{◌≡◌, ◌<◌, ◌≤◌};
 ghost use Rattle.std.specs.Int.Bits.{bit_or};
 ghost use Rattle.bits.specs.Sets.{with, without, first, has, below32, Within, Meets};
 
+// The numbers below 32.
+const LOW: u64 = u32::MAX as u64;
+
 // The set with one number more.
 pub fn add(set: u64, x: u32) -> u64
     requires { x < 64 }
@@ -29,7 +32,7 @@ pub fn below(n: u32) -> u64
     if n < 64 {
         return (1u64 << n) - 1;
     }
-    18446744073709551615
+    u64::MAX
 }
 
 // Whether every member of the first set is one of the second.
@@ -65,5 +68,5 @@ pub fn meets(a: u64, b: u64) -> bool
 pub fn low(set: u64) -> u64
     ensures { result ≡ below32 set }
 {
-    set % 4294967296
+    set & LOW
 }

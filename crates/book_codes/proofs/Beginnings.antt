@@ -1,5 +1,5 @@
 -- Where each use begins: one row after the other.
-use mathlib.Core.Path.{◌≡◌, refl, sym, ap, ap₂, ◌∙◌}
+use mathlib.Core.Path.{◌≡◌, sym, ap, ap₂, ◌∙◌}
 use mathlib.Core.List.{List, [], ◌∷◌, ◌++◌}
 use Prim.Native.Nat.{ℕ, ◌+◌, ◌<◌, ◌≤◌}
 use native.Mathlib.Omega.{arith}
@@ -11,11 +11,10 @@ use Rattle.spec.specs.Book.{Book, admitted_of}
 use Rattle.spec.specs.Given.{at_front}
 use Rattle.choice_theory.specs.Numbered.{row_at}
 use Rattle.rule_codes.proofs.Stores.{front-more}
-use Rattle.book_codes.specs.OneUse.{OneCount}
 use Rattle.book_codes.specs.RowsGiven.{RowsOf}
 use Rattle.book_codes.specs.Insides.{starts}
 use Rattle.book_codes.specs.AllUses.{AllStarts}
-use Rattle.book_codes.proofs.Growing.{row_from, row_of, uses-take, uses-many, GoalsReached, Goals}
+use Rattle.book_codes.proofs.Growing.{uses-take, uses-many, GoalsReached, Goals}
 
 module _ {A : Type 0} where
   pub starts-long : (at : ℕ) (ls : List (List A)) → length (starts at ls) ≡ length ls + 1
@@ -36,13 +35,6 @@ module _ (book rows : List ℕ) (n : ℕ) where
     pub is : (b : Book) (l : List (Subgoal (Term ℕ))) → RowsOf book rows n b l → after ≡ at_front (starts 0 (uses (admitted_of b) 0 (take r l))) before
 
 module _ {book rows : List ℕ} {n : ℕ} where
-  pub count-goals : {r goals : ℕ} → r < n → OneCount book (row_from rows r) goals → Goals book rows n r goals
-  count-goals {r} h u = record { some = u.some; few = u.few; is = λ b l w. u.count b (row_at l r) r (row_of w r h) }
-
-  pub begun-starts : (before : List ℕ) → 1 ≤ length before → Begun book rows n (set before 0 0) 0 (set before 0 0)
-  begun-starts [] h = absurd (omega arith)
-  begun-starts (x ∷ before) h = record { long = refl; is = λ b l w. refl }
-
   pub begun-goes : {before after : List ℕ} {r at goals : ℕ} → r < n → n + 1 ≤ length before → GoalsReached book rows n r at → Goals book rows n r goals
       → Begun book rows n before r after → Begun book rows n before (r + 1) (set after (r + 1) (at + goals))
   begun-goes {before} {after} {r} {at} {goals} turn room reached g s = record { long = length-set after (r + 1) (at + goals) ∙ s.long; is = is }

@@ -1,5 +1,5 @@
 -- The walk over the rows: what stands at the front of an area after the first r of them.
-use mathlib.Core.Path.{◌≡◌, refl, sym, ap, ap₂, ◌∙◌}
+use mathlib.Core.Path.{◌≡◌, sym, ap, ap₂, subst, ◌∙◌}
 use mathlib.Core.List.{List, [], ◌∷◌, ◌++◌, append_assoc, append-nil}
 use Prim.Native.Nat.{ℕ, zero, suc, ◌+◌, ◌*◌, ◌-◌, ◌<◌, ◌≤◌}
 use native.Mathlib.Omega.{arith}
@@ -18,7 +18,7 @@ use Rattle.codes.proofs.Padded.{nine, codes-length, widths-length}
 use Rattle.rule_codes.proofs.Stores.{front-more}
 use Rattle.search_meaning.proofs.Owners.{uses-long}
 use Rattle.book_codes.specs.RowGiven.{RowOf, RowGiven}
-use Rattle.book_codes.specs.OneUse.{OneUse, OneWidths}
+use Rattle.book_codes.specs.OneUse.{OneUse, OneCount, OneWidths}
 use Rattle.book_codes.specs.RowsGiven.{RowsOf, RowsGiven}
 use Rattle.book_codes.specs.AllUses.{GoalsCounted}
 use Rattle.book_codes.proofs.Spread.{spread, codes_each, widths_each, spread-more, spread-long, uses-more}
@@ -42,13 +42,17 @@ stored-behind area codes after k h e =
     ∙ ap (λ l. take k area ++ l) (append-nil after ∙ e ∙ ap (at_front codes) (to_end area k) ∙ ap (λ l. codes ++ l) (drop-drop (length codes) k area))
     ∙ sym (append_assoc (take k area) codes (drop (k + length codes) area)) ∙ sym (sets-eq codes area k h)
 
+-- a use by its number
+pub numbered : {book row before after : List ℕ} {code : Term (Own ℕ) → ℕ} {u r goals : ℕ} → u ≡ r → OneUse book row code u before after goals → OneUse book row code r before after goals
+numbered {book} {row} {before} {after} {code} {goals = goals} e = subst (λ u. OneUse book row code u before after goals) e
+
 module _ {book rows : List ℕ} {n : ℕ} where
   module _ {b : Book} {l : List (Subgoal (Term ℕ))} (w : RowsOf book rows n b l) where
     rows_long : 9 * n ≤ length rows
     rows_long = omega (arith, length-take (9 * n) rows, ap length w.codes, codes-length term_code l, w.count)
 
-    pub row_of : (r : ℕ) → r < n → RowOf book (row_from rows r) b (row_at l r)
-    row_of r h =
+    pub row-read : (r : ℕ) → r < n → (row : List ℕ) → take 9 row ≡ take 9 (drop (9 * r) rows) → RowOf book row b (row_at l r)
+    row-read r h row e =
         let less : r < length l = let c = w.count in omega arith in
         let m = get_or-in nothing l r less in
         let o = w.within.over (row_at l r) m in
@@ -57,9 +61,12 @@ module _ {book rows : List ℕ} {n : ℕ} where
           over = record { rule = o.0; admitted = o.1; long = w.long (row_at l r) m ∙ ap (λ d. length (or_empty d).head) o.1 };
           within = w.within.within (row_at l r) m;
           codes =
-              ap (take 9) (to_end rows (9 * r) ∙ ap (drop (9 * r)) (sym (take-append-drop (9 * n) rows) ∙ ap (λ f. f ++ drop (9 * n) rows) w.codes))
+              e ∙ ap (λ k. take 9 (drop (9 * r) k)) (sym (take-append-drop (9 * n) rows) ∙ ap (λ f. f ++ drop (9 * n) rows) w.codes)
               ∙ nine-at term_code l (drop (9 * n) rows) r less;
         }
+
+    pub row_of : (r : ℕ) → r < n → RowOf book (row_from rows r) b (row_at l r)
+    row_of r h = row-read r h (row_from rows r) (ap (take 9) (to_end rows (9 * r)))
 
     -- the uses of one row more
     pub uses-take : (r : ℕ) → r < n → uses (admitted_of b) 0 (take (r + 1) l) ≡ uses (admitted_of b) 0 (take r l) ++ (in_place (admitted_of b) r (row_at l r) ∷ [])
@@ -72,6 +79,9 @@ module _ {book rows : List ℕ} {n : ℕ} where
 
     pub uses-many : (r : ℕ) → r ≤ n → length (uses (admitted_of b) 0 (take r l)) ≡ r
     uses-many r h = uses-long (admitted_of b) 0 (take r l) ∙ length-take-le r l (let c = w.count in omega arith)
+
+  pub row-given : RowsGiven book rows n → {r : ℕ} → r < n → {row : List ℕ} → take 9 row ≡ take 9 (drop (9 * r) rows) → RowGiven book row
+  row-given g {r} h {row} e = record { value = g.value; goal = row_at g.list r; is = row-read g.is r h row e }
 
   pub row-there : RowsGiven book rows n → (r : ℕ) → r < n → RowGiven book (row_from rows r)
   row-there g r h = record { value = g.value; goal = row_at g.list r; is = row_of g.is r h }
@@ -101,34 +111,33 @@ module _ (book rows : List ℕ) (n : ℕ) where
     pub is : (b : Book) (l : List (Subgoal (Term ℕ))) → RowsOf book rows n b l → next ≡ sets after to (one r (in_place (admitted_of b) r (row_at l r)))
 
 module _ {book rows : List ℕ} {n : ℕ} where
-  pub reach-starts : GoalsReached book rows n 0 0
-  reach-starts = record { few = omega arith; is = λ b l w. refl }
-
-  pub so-starts : (one : ℕ → List (Subgoal (Term (Own ℕ))) → List ℕ) (before : List ℕ) → RowsWritten book rows n one before 0 before
-  so-starts one before = record { long = refl; is = λ b l w. refl }
-
   module _ {r : ℕ} (turn : r < n) where
-    pub use-goals : {code : Term (Own ℕ) → ℕ} {goals : ℕ} {before after : List ℕ} → OneUse book (row_from rows r) code r before after goals → Goals book rows n r goals
-    use-goals u = record { some = u.some; few = u.few; is = λ b l w. u.count b (row_at l r) (row_of w r turn) }
+    module _ {row : List ℕ} (chunk : take 9 row ≡ take 9 (drop (9 * r) rows)) where
+      pub use-goals : {code : Term (Own ℕ) → ℕ} {goals : ℕ} {before after : List ℕ} → OneUse book row code r before after goals → Goals book rows n r goals
+      use-goals u = record { some = u.some; few = u.few; is = λ b l w. u.count b (row_at l r) (row-read w r turn row chunk) }
 
-    -- the use's codes, in a part that is lent
-    pub codes-added : {code : Term (Own ℕ) → ℕ} {goals to : ℕ} {area after : List ℕ} → OneUse book (row_from rows r) code r (take (length area - to) (drop to area)) after goals
-        → to + 9 * goals ≤ length area → Added book rows n (codes_each code) r to area (put_mid to (length area - to) area after)
-    codes-added {code} {to = to} {area} {after} u h = record { is = is }
-      where
-        is : (b : Book) (l : List (Subgoal (Term ℕ))) → RowsOf book rows n b l → put_mid to (length area - to) area after ≡ sets area to (codes_of code (in_place (admitted_of b) r (row_at l r)))
-        is b l w =
-            let m = in_place (admitted_of b) r (row_at l r) in
-            stored-behind area (codes_of code m) after to (omega (arith, codes-length code m, u.count b (row_at l r) (row_of w r turn))) (u.codes b (row_at l r) (row_of w r turn))
+      pub count-goals : {goals : ℕ} → OneCount book row goals → Goals book rows n r goals
+      count-goals u = record { some = u.some; few = u.few; is = λ b l w. u.count b (row_at l r) r (row-read w r turn row chunk) }
 
-    pub widths-added : {goals to : ℕ} {area after : List ℕ} → OneWidths book (row_from rows r) (take (length area - to) (drop to area)) after → Goals book rows n r goals
-        → to + goals ≤ length area → Added book rows n widths_each r to area (put_mid to (length area - to) area after)
-    widths-added {to = to} {area} {after} u g h = record { is = is }
-      where
-        is : (b : Book) (l : List (Subgoal (Term ℕ))) → RowsOf book rows n b l → put_mid to (length area - to) area after ≡ sets area to (widths_of (in_place (admitted_of b) r (row_at l r)))
-        is b l w =
-            let m = in_place (admitted_of b) r (row_at l r) in
-            stored-behind area (widths_of m) after to (omega (arith, widths-length m, g.is b l w)) (u.widths b (row_at l r) r (row_of w r turn))
+      -- the use's codes, in a part that is lent
+      pub codes-added : {code : Term (Own ℕ) → ℕ} {goals to : ℕ} {area after : List ℕ} → OneUse book row code r (take (length area - to) (drop to area)) after goals
+          → to + 9 * goals ≤ length area → Added book rows n (codes_each code) r to area (put_mid to (length area - to) area after)
+      codes-added {code} {to = to} {area} {after} u h = record { is = is }
+        where
+          is : (b : Book) (l : List (Subgoal (Term ℕ))) → RowsOf book rows n b l → put_mid to (length area - to) area after ≡ sets area to (codes_of code (in_place (admitted_of b) r (row_at l r)))
+          is b l w =
+              let m = in_place (admitted_of b) r (row_at l r) in
+              let g = row-read w r turn row chunk in
+              stored-behind area (codes_of code m) after to (omega (arith, codes-length code m, u.count b (row_at l r) g)) (u.codes b (row_at l r) g)
+
+      pub widths-added : {goals to : ℕ} {area after : List ℕ} → OneWidths book row (take (length area - to) (drop to area)) after → Goals book rows n r goals
+          → to + goals ≤ length area → Added book rows n widths_each r to area (put_mid to (length area - to) area after)
+      widths-added {to = to} {area} {after} u g h = record { is = is }
+        where
+          is : (b : Book) (l : List (Subgoal (Term ℕ))) → RowsOf book rows n b l → put_mid to (length area - to) area after ≡ sets area to (widths_of (in_place (admitted_of b) r (row_at l r)))
+          is b l w =
+              let m = in_place (admitted_of b) r (row_at l r) in
+              stored-behind area (widths_of m) after to (omega (arith, widths-length m, g.is b l w)) (u.widths b (row_at l r) r (row-read w r turn row chunk))
 
     -- numbers by how many subgoals the use has
     pub numbers-added : (f : ℕ → ℕ → List ℕ) {goals to : ℕ} {after next : List ℕ} → Goals book rows n r goals → next ≡ sets after to (f r goals) → Added book rows n (λ u m. f u (length m)) r to after next

@@ -1,9 +1,9 @@
 -- A sound book's question stands where it is read, and what is read there is the question's.
 use mathlib.Core.Path.{◌≡◌}
 use mathlib.Core.List.{List}
-use Prim.Native.Nat.{ℕ, ◌*◌, ◌<◌, ◌≤◌}
+use Prim.Native.Nat.{ℕ, ◌<◌, ◌≤◌}
 use native.Mathlib.Omega.{arith}
-use lib.ListN.{length, get_or}
+use lib.ListN.{get_or}
 use Rattle.spec.specs.Words.{◌∈◌, var}
 use Rattle.spec.specs.Book.{Book}
 use Rattle.spec.specs.BookLayout.{SoundBook, question_most}
@@ -14,9 +14,10 @@ use Rattle.spec.proofs.Bytes.BookPasses.{book-loads, question-reads, question-la
 use Rattle.spec.proofs.Lists.Finite.{is-in}
 use Rattle.spec.proofs.Bytes.Within.{entries-some}
 use Rattle.codes.specs.Code.{slot_code, term_code}
-use Rattle.rule_codes.specs.Laid.{Laid, LaidFor}
+use Rattle.rule_codes.specs.Laid.{Laid, LaidOver}
 use Rattle.rule_codes.specs.Promises.{BodyCodes, BodyWidths}
 use Rattle.rule_codes.specs.Heads.{HeadBindings}
+use Rattle.rule_codes.proofs.RuleLaid.{goals-counted, rule-there}
 use Rattle.book_codes.specs.Question.{SomeSound, QuestionSource, QuestionTarget, QuestionBound}
 
 module _ {book : List ℕ} (w : SomeSound book) where
@@ -40,10 +41,12 @@ module _ {book : List ℕ} (w : SomeSound book) where
         ]
 
     module _ {relations : List ℕ} (first : relations ≡ part_at book 0) where
-      pub laid-for : (each area : ℕ) → ((n : ℕ) → n ≤ 12 → each * n ≤ area) → LaidFor relations body each area
-      laid-for each area room =
-          let l = question-laid first part w.value w.sound in
-          record { most = question_most; rule = w.value.question; layout = l; room = room (length w.value.question.body) l.within.few }
+      pub question-rule : ∥ LaidOver relations body ∥₁
+      question-rule = rule-there (question-laid first part w.value w.sound)
+
+      -- "question 1 to 12" subgoals
+      pub question-goals : get_or body 1 0 ≤ 12
+      question-goals = let l = question-laid first part w.value w.sound in let few = l.within.few in omega (arith, goals-counted l)
 
       pub source_is : {before after old new : List ℕ} {n : ℕ} → BodyCodes relations body slot_code before after n → BodyWidths relations body old new n → QuestionSource book before after old new n
       source_is f g = record {

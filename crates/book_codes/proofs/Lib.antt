@@ -1,5 +1,6 @@
 pub mod BackTask
 pub mod Beginnings
+pub mod Chunks
 pub mod Expanded
 pub mod Growing
 pub mod Laid

@@ -2,10 +2,10 @@
 use mathlib.Core.Path.{◌≡◌, sym, ap, subst, ◌∙◌}
 use mathlib.Core.Option.{some}
 use mathlib.Core.List.{List, [], ◌∷◌, map}
-use Prim.Native.Nat.{ℕ, suc, ◌+◌, ◌-◌, ◌<◌, ◌≤◌}
+use Prim.Native.Nat.{ℕ, suc, ◌+◌, ◌<◌, ◌≤◌}
 use native.Mathlib.Omega.{arith}
 use lib.ListN.{length, get_or, take, drop, length-take, length-map}
-use lib.Seq.{get_or-take, take_all, take-take}
+use lib.Seq.{get_or-take, take-take}
 use Rattle.spec.specs.Words.{Term, con, Subgoal, Rule, DistinctVariables, each, becomes}
 use Rattle.spec.specs.Summaries.{place, or_empty, definition, Own, in_use, in_place}
 use Rattle.spec.specs.Book.{Summary, Book, admitted_of}
@@ -21,20 +21,18 @@ use Rattle.spec.proofs.Bytes.BookPasses.{book-loads, summary-reads}
 use Rattle.containment.proofs.Sound.{admitted-place}
 use Rattle.codes.specs.Code.{term_code, padded, widths_of}
 use Rattle.codes.proofs.Padded.{padded-length, padded-front}
-use Rattle.rule_codes.specs.Laid.{Laid, LaidFor, UseOf, UseFor}
+use Rattle.rule_codes.specs.Laid.{Laid, LaidOver, UseOf, UseOver}
 use Rattle.rule_codes.specs.Promises.{GoalCount, BodyWidths}
 use Rattle.rule_codes.specs.Uses.{UseCodes}
 use Rattle.rule_codes.proofs.CodeLaws.{widths-each}
+use Rattle.rule_codes.proofs.RuleLaid.{goals-counted, rule-there}
 use Rattle.book_codes.specs.RowGiven.{RowOf, RowGiven}
 use Rattle.book_codes.specs.OneUse.{OneUse, OneCount, OneWidths}
 
 -- codes behind the first, taken from nine at the front
-behind : (row : List ℕ) (k x : ℕ) (l : List ℕ) → k ≤ 8 → take 9 row ≡ x ∷ l → take k (take (length row - 1) (drop 1 row)) ≡ take k l
+behind : (row : List ℕ) (k x : ℕ) (l : List ℕ) → k ≤ 8 → take 9 row ≡ x ∷ l → take k (drop 1 row) ≡ take k l
 behind [] k x l h e = absurd (let z : ◌≡◌ {A = ℕ} 0 1 = cc in omega arith)
-behind (y ∷ row) k x l h e =
-    let same : take 8 row ≡ l = cc in
-    let n : suc (length row) - 1 ≡ length row = omega arith in
-    ap (λ m. take k (take m row)) n ∙ ap (take k) (take_all (length row) row (omega arith)) ∙ sym (take-take k 8 row h) ∙ ap (take k) same
+behind (y ∷ row) k x l h e = let same : take 8 row ≡ l = cc in sym (take-take k 8 row h) ∙ ap (take k) same
 
 module _ {book row : List ℕ} {b : Book} {g : Subgoal (Term ℕ)} (w : RowOf book row b g) where
   abbrev rule : Rule ℕ
@@ -71,19 +69,21 @@ module _ {book row : List ℕ} {b : Book} {g : Subgoal (Term ℕ)} (w : RowOf bo
   pub row-loads : Loads book
   row-loads = book-loads w.sound
 
-  pub use-of : (arities bytes : List ℕ) → bytes ≡ part_at book (get_or row 0 0 + 1) → arities ≡ part_at book 0 → UseOf arities bytes (take (length row - 1) (drop 1 row)) rule g.terms
-  use-of arities bytes p q =
-      let next : get_or row 0 0 + 1 ≡ suc g.relation = omega (arith, row-relation) in
+  pub row-layout : (arities bytes : List ℕ) → bytes ≡ part_at book (get_or row 0 0 + 1) → arities ≡ part_at book 0 → Layout arities (most_at (suc g.relation)) bytes rule
+  row-layout arities bytes p q = let next : get_or row 0 0 + 1 ≡ suc g.relation = omega (arith, row-relation) in rw (p, q, next) layout
+
+  pub use-of : (arities bytes terms : List ℕ) → bytes ≡ part_at book (get_or row 0 0 + 1) → arities ≡ part_at book 0 → terms ≡ drop 1 row → UseOf arities bytes terms rule g.terms
+  use-of arities bytes terms p q r =
       let short : length g.terms ≤ 8 = let n = w.over.long in let m = layout.within.short in omega arith in
       let many : length (map term_code g.terms) ≡ length g.terms = length-map g.terms term_code in
       record {
         most = most_at (suc g.relation);
-        layout = rw (p, q, next) layout;
+        layout = row-layout arities bytes p q;
         plain = plain;
         long = w.over.long;
         within = w.within;
         codes =
-            behind row (length g.terms) g.relation (padded 8 (map term_code g.terms)) short w.codes
+            ap (take (length g.terms)) r ∙ behind row (length g.terms) g.relation (padded 8 (map term_code g.terms)) short w.codes
             ∙ ap (λ k. take k (padded 8 (map term_code g.terms))) (sym many) ∙ padded-front 8 (map term_code g.terms) (omega arith);
       }
 
@@ -109,32 +109,35 @@ module _ {book row : List ℕ} (given : RowGiven book row) where
   nine-there = row-nine given.is
 
   module _ {arities bytes : List ℕ} (p : bytes ≡ part_at book (get_or row 0 0 + 1)) (q : arities ≡ part_at book 0) where
-    pub use-for : (area : ℕ) → 72 ≤ area → UseFor arities bytes (take (length row - 1) (drop 1 row)) area
-    use-for area h = record { rule = rule given.is; terms = given.goal.terms; is = use-of given.is arities bytes p q; room = let n = goals given.is in omega arith }
+    pub summary-rule : ∥ LaidOver arities bytes ∥₁
+    summary-rule = rule-there (row-layout given.is arities bytes p q)
 
-    pub laid-for : (area : ℕ) → 8 ≤ area → LaidFor arities bytes 1 area
-    laid-for area h = let o = use-of given.is arities bytes p q in record { most = o.most; rule = rule given.is; layout = o.layout; room = let n = goals given.is in omega arith }
+    pub summary-goals : get_or bytes 1 0 ≤ 8
+    summary-goals = let n = goals given.is in omega (arith, goals-counted (row-layout given.is arities bytes p q))
 
     pub laid : Laid bytes
-    laid = let o = use-of given.is arities bytes p q in record { arities = arities; most = o.most; rule = rule given.is; layout = o.layout }
+    laid = record { arities = arities; most = _; rule = rule given.is; layout = row-layout given.is arities bytes p q }
 
     pub one-count : {n : ℕ} → GoalCount bytes n → OneCount book row n
     one-count e =
-        let o = use-of given.is arities bytes p q in
-        let same = e.is arities o.most (rule given.is) o.layout in
+        let same = e.is arities _ (rule given.is) (row-layout given.is arities bytes p q) in
         let n = goals given.is in
-        record { some = omega arith; few = omega arith; count = λ b g u w. let o = use-of w arities bytes p q in e.is arities o.most (rule w) o.layout ∙ sym (use-count w u) }
-
-    pub one-use : {code : Term (Own ℕ) → ℕ} {u : ℕ} {before after : List ℕ} {n : ℕ} → UseCodes arities bytes (take (length row - 1) (drop 1 row)) code u before after n → OneUse book row code u before after n
-    one-use {u = u} e =
-        let same = e.count (rule given.is) given.goal.terms (use-of given.is arities bytes p q) in
-        let n = goals given.is in
-        record {
-          some = omega arith;
-          few = omega arith;
-          count = λ b g w. e.count (rule w) g.terms (use-of w arities bytes p q) ∙ sym (use-count w u);
-          codes = λ b g w. e.codes (rule w) (admitted_of b) g (use-of w arities bytes p q) w.over.admitted;
-        }
+        record { some = omega arith; few = omega arith; count = λ b g u w. e.is arities _ (rule w) (row-layout w arities bytes p q) ∙ sym (use-count w u) }
 
     pub one-widths : {before after : List ℕ} {n : ℕ} → BodyWidths arities bytes before after n → OneWidths book row before after
-    one-widths {before} e = record { widths = λ b g u w. let o = use-of w arities bytes p q in e.widths o.most (rule w) o.layout ∙ ap (λ l. at_front l before) (sym (use-same-widths w u)) }
+    one-widths {before} e = record { widths = λ b g u w. e.widths _ (rule w) (row-layout w arities bytes p q) ∙ ap (λ l. at_front l before) (sym (use-same-widths w u)) }
+
+    module _ {terms : List ℕ} (r : terms ≡ drop 1 row) where
+      pub use-over : UseOver arities bytes terms
+      use-over = record { rule = rule given.is; terms = given.goal.terms; is = use-of given.is arities bytes terms p q r }
+
+      pub one-use : {code : Term (Own ℕ) → ℕ} {u : ℕ} {before after : List ℕ} {n : ℕ} → UseCodes arities bytes terms code u before after n → OneUse book row code u before after n
+      one-use {u = u} e =
+          let same = e.count (rule given.is) given.goal.terms (use-of given.is arities bytes terms p q r) in
+          let n = goals given.is in
+          record {
+            some = omega arith;
+            few = omega arith;
+            count = λ b g w. e.count (rule w) g.terms (use-of w arities bytes terms p q r) ∙ sym (use-count w u);
+            codes = λ b g w. e.codes (rule w) (admitted_of b) g (use-of w arities bytes terms p q r) w.over.admitted;
+          }

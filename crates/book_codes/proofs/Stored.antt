@@ -1,38 +1,27 @@
--- Numbers stored one by one beside the subgoals of a use.
-use mathlib.Core.Path.{◌≡◌, refl, sym, ap, ◌∙◌}
-use mathlib.Core.List.{List, [], ◌∷◌, ◌++◌}
+-- Numbers beside the subgoals of a use: what a part of an area becomes, and the area with that part in its place.
+use mathlib.Core.Path.{◌≡◌, refl, sym, ap, ap₂, ◌∙◌}
+use mathlib.Core.List.{List, ◌∷◌, ◌++◌, append_assoc}
 use Prim.Native.Nat.{ℕ, zero, suc, ◌+◌, ◌-◌, ◌<◌, ◌≤◌}
 use native.Mathlib.Omega.{arith}
-use lib.ListN.{length, get_or, take, set, replicate, length-replicate, get_or-replicate}
-use lib.Seq.{sets, length-sets}
+use lib.ListN.{length, get_or, take, drop, set, replicate, length-take, length-drop}
+use lib.Seq.{sets, sets-eq, drop-drop, ext_get_or}
+use borrow.Rule.Slice.PartMut.{put_mid}
 use Rattle.spec.proofs.Lists.Counted.{counted}
-use Rattle.spec.proofs.Lists.Stores.{sets_more}
-use Rattle.rule_codes.proofs.Stores.{stores-more, stores-end}
 use Rattle.search_meaning.specs.Uses.{end_of}
 
--- The area after k of the numbers.
-pub record NumbersStored (before : List ℕ) (at : ℕ) (codes : List ℕ) (k : ℕ) (after : List ℕ) : Type 0 where
-  pub is : after ≡ sets before at (take k codes)
+-- a part replaced is so many stores
+pub part-put : (area codes : List ℕ) (at k : ℕ) → at + k ≤ length area → length codes ≡ k → put_mid at k area codes ≡ sets area at codes
+part-put area codes at k h e =
+    ap (λ l. take at area ++ (codes ++ l)) (drop-drop k at area ∙ ap (λ m. drop (at + m) area) (sym e))
+    ∙ sym (append_assoc (take at area) codes (drop (at + length codes) area)) ∙ sym (sets-eq codes area at (omega arith))
 
-module _ (before : List ℕ) (at : ℕ) (codes : List ℕ) where
-  pub store-starts : NumbersStored before at codes 0 before
-  store-starts = record { is = refl }
-
-  module _ {k : ℕ} {after : List ℕ} (s : NumbersStored before at codes k after) where
-    pub store_long : length after ≡ length before
-    store_long = ap length s.is ∙ length-sets before at (take k codes)
-
-    pub store_goes : (v : ℕ) → k < length codes → v ≡ get_or codes k 0 → NumbersStored before at codes (k + 1) (set after (at + k) v)
-    store_goes v h e =
-        let one : k + 1 ≡ suc k = omega arith in
-        record { is = ap (λ a. set a (at + k) v) s.is ∙ stores-more before at codes k v h e ∙ ap (λ j. sets before at (take j codes)) (sym one) }
-
-    pub store-ends : length codes ≤ k → after ≡ sets before at codes
-    store-ends h = s.is ∙ stores-end before at codes k h
-
--- one number
-pub filled : (many number k : ℕ) → k < many → number ≡ get_or (replicate many number) k 0
-filled many number k h = sym (get_or-replicate many k number 0 h)
+-- .. where it is written by its length
+pub part-stored : (f : ℕ → List ℕ) → ((k : ℕ) → length (f k) ≡ k) → (area after : List ℕ) (at k : ℕ) → at + k ≤ length area
+    → after ≡ f (length (take (at + k - at) (drop at area))) → put_mid at (at + k - at) area after ≡ sets area at (f k)
+part-stored f each area after at k h e =
+    let n : at + k - at ≡ k = omega arith in
+    let long : length (take (at + k - at) (drop at area)) ≡ k = simp (n, length-take, length-drop) (omega arith) in
+    ap₂ (λ l m. put_mid at m area l) (e ∙ ap f long) n ∙ part-put area (f k) at k h (each k)
 
 -- numbers that count up
 pub counted-long : (n m : ℕ) → length (counted n m) ≡ m
@@ -44,18 +33,14 @@ counted-at n zero k h = absurd (omega arith)
 counted-at n (suc m) zero h = omega arith
 counted-at n (suc m) (suc k) h = omega (arith, counted-at (suc n) m k (omega arith))
 
-pub counted-up : (m k : ℕ) → k < m → k ≡ get_or (counted 0 m) k 0
-counted-up m k h = omega (arith, counted-at 0 m k h)
+pub counted-up : (l : List ℕ) → ((k : ℕ) → k < length l → get_or l k 0 ≡ k) → l ≡ counted 0 (length l)
+counted-up l h = ext_get_or 0 l (counted 0 (length l)) (sym (counted-long 0 (length l))) (λ k i. h k i ∙ omega (arith, counted-at 0 (length l) k i))
 
 -- the last marked
-end_is : (n : ℕ) → end_of (suc n) ≡ replicate n 0 ++ (1 ∷ [])
-end_is zero = refl
-end_is (suc n) = ap (◌∷◌ 0) (end_is n)
+end_marked : (n : ℕ) → set (replicate (suc n) 0) n 1 ≡ end_of (suc n)
+end_marked zero = refl
+end_marked (suc n) = ap (◌∷◌ 0) (end_marked n)
 
-pub end-stored : (before after : List ℕ) (at many : ℕ) → 1 ≤ many → after ≡ sets before at (replicate (many - 1) 0) → set after (at + (many - 1)) 1 ≡ sets before at (end_of many)
-end-stored before after at zero h e = absurd (omega arith)
-end-stored before after at (suc n) h e =
-    let m : suc n - 1 ≡ n = omega arith in
-    let w : after ≡ sets before at (replicate n 0) = e ∙ ap (λ k. sets before at (replicate k 0)) m in
-    let zeros : List ℕ = replicate n 0 in
-    ap (λ k. set after (at + k) 1) (m ∙ sym (length-replicate n 0)) ∙ ap (λ a. set a (at + length zeros) 1) w ∙ sets_more before at zeros 1 ∙ ap (sets before at) (sym (end_is n))
+pub marked-end : (n : ℕ) → 1 ≤ n → set (replicate n 0) (n - 1) 1 ≡ end_of n
+marked-end zero h = absurd (omega arith)
+marked-end (suc n) h = let m : suc n - 1 ≡ n = omega arith in ap (λ k. set (replicate (suc n) 0) k 1) m ∙ end_marked n

@@ -1,6 +1,7 @@
 pub mod AllUses
 pub mod FewRows
 pub mod Insides
+pub mod OfRows
 pub mod OneUse
 pub mod Question
 pub mod RowGiven

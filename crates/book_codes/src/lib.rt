@@ -4,4 +4,4 @@
 pub mod marks; // numbers beside the subgoals of a use
 pub mod one_use; // one row's use
 pub mod question; // the question
-pub mod uses; // the uses of a list of rows
+pub mod uses; // rows, and their uses

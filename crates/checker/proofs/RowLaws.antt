@@ -1,9 +1,10 @@
 -- A rule over the lengths of the summaries' heads: the rewritings are those with the question's head whose rows are over admitted summaries.
-use mathlib.Core.Path.{◌≡◌, refl, sym, ap, ◌∙◌, subst}
+use mathlib.Core.Path.{◌≡◌, sym, ap, ◌∙◌, subst}
 use mathlib.Core.Bool.{Bool, true, false}
 use mathlib.Core.Logic.{◌↔◌}
 use mathlib.Core.Option.{some}
 use mathlib.Core.List.{List}
+use Rattle.std.specs.Prelude.{None, Some}
 use Prim.Native.Nat.{ℕ, ◌*◌, ◌<◌, ◌≤◌}
 use native.Mathlib.Omega.{arith}
 use lib.ListN.{length, get_or, drop, get_or-append}
@@ -23,40 +24,45 @@ use Rattle.spec.proofs.Bytes.HeadLengths.{width_is, laid_out}
 use Rattle.choice_theory.specs.Numbered.{nothing}
 use Rattle.codes.specs.Code.{term_code, codes_of}
 use Rattle.codes.proofs.Padded.{codes-length}
-use Rattle.rule_codes.specs.Laid.{LaidFor}
+use Rattle.rule_codes.specs.Laid.{LaidOver}
 use Rattle.rule_codes.specs.Promises.{BodyCodes}
+use Rattle.rule_codes.proofs.RuleLaid.{goals-counted, rule-there}
 use Rattle.rule_codes.proofs.Stores.{front_length}
 use Rattle.book_codes.specs.Question.{SomeSound}
 use Rattle.search_meaning.proofs.AtCodes.{relation-at}
 use Rattle.checker.specs.Lengths.{HeadsNeeds}
 use Rattle.checker.specs.Tests.{LaidOut, SameHeads, AdmitsAll}
-use Rattle.checker.specs.Proposed.{empty, no_rows, ProposalSays, RowsReadNeeds}
+use Rattle.checker.specs.Proposed.{empty, ProposalSays, RowsReadNeeds}
 
 -- nothing is proposed, for whatever reason
-pub proposed-none : {book rewriting : List ℕ} → ((b : Book) → SoundBook book b → (rule : Rule ℕ) → RewritingRule b rule → rule_bytes rule ≡ rewriting → ⊥) → ProposalSays book rewriting no_rows
-proposed-none never = record { none = λ b s z. record { none = never b s; codes = refl }; some = λ b s h. absurd (omega arith) }
+pub proposed-none : {book rewriting : List ℕ} → ((b : Book) → SoundBook book b → (rule : Rule ℕ) → RewritingRule b rule → rule_bytes rule ≡ rewriting → ⊥) → ProposalSays book rewriting None
+proposed-none never = record { says = never }
 
 module _ {book rewriting lengths : List ℕ} (heads : HeadsNeeds book lengths) where
   -- a rewriting is laid out over the lengths
   over-lengths : (b : Book) → SoundBook book b → (rule : Rule ℕ) → RewritingRule b rule → rule_bytes rule ≡ rewriting → Layout lengths question_most rewriting rule
   over-lengths b s rule is written = rw (heads.is b s, sym written) (laid_out b s rule is)
 
-  pub none-laid : {r : Bool} → LaidOut lengths rewriting r → r ≡ false → ProposalSays book rewriting no_rows
+  pub none-laid : {r : Bool} → LaidOut lengths rewriting r → r ≡ false → ProposalSays book rewriting None
   none-laid l f = proposed-none (λ b s rule is written. says_both (l.exactly.1 (rule, over-lengths b s rule is written)) f)
 
   module _ {part : List ℕ} (second : part ≡ part_at book 1) {q : Bool} (h : SameHeads rewriting part q) where
     same_head : (b : Book) → SoundBook book b → (rule : Rule ℕ) → Layout lengths question_most rewriting rule → (q ≡ true) ↔ (rule.head ≡ b.question.head)
     same_head b s rule l = h.exactly lengths question_most rule l (part_at book 0) question_most b.question (rw second (question-reads s))
 
-    pub none-headed : q ≡ false → ProposalSays book rewriting no_rows
+    pub none-headed : q ≡ false → ProposalSays book rewriting None
     none-headed f = proposed-none (λ b s rule is written. says_both ((same_head b s rule (over-lengths b s rule is written)).1 is.head) f)
 
     pub rows-given : SomeSound book → {r : Bool} → LaidOut lengths rewriting r → r ≡ true → q ≡ true → RowsReadNeeds book rewriting lengths
     rows-given w l t u = let o = l.exactly.0 t in record { sound = w; heads = heads; rule = o.0; layout = o.1; same = λ b s. (same_head b s o.0 o.1).0 u }
 
 module _ {book rewriting lengths : List ℕ} (g : RowsReadNeeds book rewriting lengths) where
-  pub rows-room : (each area : ℕ) → ((n : ℕ) → n ≤ 12 → each * n ≤ area) → LaidFor lengths rewriting each area
-  rows-room each area room = record { most = question_most; rule = g.rule; layout = g.layout; room = room (length g.rule.body) g.layout.within.few }
+  pub rows-rule : ∥ LaidOver lengths rewriting ∥₁
+  rows-rule = rule-there g.layout
+
+  -- "1 to 12 subgoals"
+  pub rows-goals : get_or rewriting 1 0 ≤ 12
+  rows-goals = let few = g.layout.within.few in omega (arith, goals-counted g.layout)
 
   module _ {codes : List ℕ} {n : ℕ} (body : BodyCodes lengths rewriting term_code empty codes n) where
     count-is : n ≡ length g.rule.body
@@ -92,10 +98,9 @@ module _ {book rewriting lengths : List ℕ} (g : RowsReadNeeds book rewriting l
               long = (g.layout.within.fit x m).long ∙ ap (λ l. get_or l x.relation 0) (g.heads.is b s) ∙ (width_is b.need b.summaries x.relation a.0 admitted).2;
             }
 
-        pub rows-proposed : ProposalSays book rewriting record { count = n; codes = codes }
+        pub rows-proposed : ProposalSays book rewriting (Some record { count = n; codes = codes })
         rows-proposed = record {
-          none = λ b s z. absurd (let some = g.layout.within.some in omega (arith, count-is));
-          some = λ b s h. record {
+          says = λ b s. record {
             rule = g.rule;
             is = record { some = g.layout.within.some; few = g.layout.within.few; over = over-all b s; within = g.layout.within.body; head = g.same b s };
             written = g.layout.written;
@@ -105,7 +110,7 @@ module _ {book rewriting lengths : List ℕ} (g : RowsReadNeeds book rewriting l
         }
 
       -- one row is over no admitted summary: no rule with these bytes is a rewriting
-      pub rows-refused : r ≡ false → ProposalSays book rewriting no_rows
+      pub rows-refused : r ≡ false → ProposalSays book rewriting None
       rows-refused f = proposed-none never
         where
           never : (b : Book) → SoundBook book b → (rule : Rule ℕ) → RewritingRule b rule → rule_bytes rule ≡ rewriting → ⊥

@@ -2,17 +2,16 @@
 use mathlib.Core.Path.{◌≡◌, sym, ap, ◌∙◌, subst}
 use mathlib.Core.Bool.{Bool, false}
 use mathlib.Core.List.{List}
-use Prim.Native.Nat.{ℕ, ◌*◌, ◌≤◌}
+use Rattle.std.specs.Prelude.{Option, None, Some, Result, Ok, Err}
+use Prim.Native.Nat.{ℕ, ◌*◌}
 use native.Mathlib.Omega.{arith}
 use lib.ListN.{length}
 use Rattle.spec.specs.Words.{Rule}
 use Rattle.spec.specs.Summaries.{or_empty, rewriting}
 use Rattle.spec.specs.Answer.{There, Back}
 use Rattle.spec.specs.Book.{Book, admitted_of}
-use Rattle.spec.specs.declared.Reason.{Reason}
 use Rattle.spec.specs.Reading.{ReadingSays}
-use Rattle.spec.specs.declared.Reading.{Reading}
-use Rattle.spec.specs.declared.Reading.TheVariants.{Sound, Refused}
+use Rattle.spec.specs.declared.Refused.{Refused}
 use Rattle.spec.specs.Truth.{RewritingRule, Truth, Checks}
 use Rattle.spec.proofs.Bytes.BookUnique.{book-unique}
 use Rattle.spec.proofs.Bytes.Refused.{sound-unrefused}
@@ -23,21 +22,21 @@ use Rattle.rule_codes.proofs.Stores.{front-again}
 use Rattle.book_codes.specs.Question.{SomeSound}
 use Rattle.book_codes.specs.FewRows.{FewRowsOf, FewRows}
 use Rattle.bits.proofs.Laws.{exactly-no}
-use Rattle.checker.specs.Proposed.{IsProposed, ProposalSays, empty}
+use Rattle.checker.specs.Proposed.{IsProposed, Proposed, ProposalSays, empty}
 use Rattle.checker.specs.declared.proposal.Proposal.{Proposal}
 use Rattle.checker.specs.Steps.{Witness, ConfirmSays}
 
-module _ {book bytes : List ℕ} {r : Proposal} (p : ProposalSays book bytes r) where
+module _ {book bytes : List ℕ} {o : Option Proposal} (p : ProposalSays book bytes o) where
   -- no rule: nothing is true of it
-  pub no-rule : {witness : List ℕ} → r.count ≡ 0 → Checks book bytes witness false
-  no-rule e = record { exactly = exactly-no (λ t. (p.none t.value t.sound e).none t.rule t.is t.written) }
+  pub no-rule : {witness : List ℕ} → o ≡ None → Checks book bytes witness false
+  no-rule e = record { exactly = exactly-no (λ t. subst (Proposed t.value bytes) e (p.says t.value t.sound) t.rule t.is t.written) }
 
-  module _ (w : SomeSound book) (some : 1 ≤ r.count) where
+  module _ {r : Proposal} (w : SomeSound book) (is : o ≡ Some r) where
     abbrev b : Book
     b = w.value
 
     it : IsProposed b bytes r
-    it = p.some b w.sound some
+    it = subst (Proposed b bytes) is (p.says b w.sound)
 
     abbrev q : Rule ℕ
     q = b.question
@@ -95,9 +94,9 @@ module _ {book bytes : List ℕ} {r : Proposal} (p : ProposalSays book bytes r) 
       confirmed = let e = c.exactly b it.rule.body few-of in record { exactly = (λ y. truth (e.0 y), λ t. e.1 (only t)) }
 
 -- what the reading says, case by case
-module _ {book : List ℕ} {r : Reading} (says : ReadingSays book r) where
-  pub read-sound : r ≡ Sound → SomeSound book
+module _ {book : List ℕ} {r : Result Unit Refused} (says : ReadingSays book r) where
+  pub read-sound : {u : Unit} → r ≡ Ok u → SomeSound book
   read-sound e = let v = subst (ReadingSays book) e says in record { value = v.0; sound = v.1 }
 
-  pub read-refused : {bytes witness : List ℕ} {why : Reason} → r ≡ Refused why → Checks book bytes witness false
+  pub read-refused : {bytes witness : List ℕ} {why : Refused} → r ≡ Err why → Checks book bytes witness false
   read-refused e = record { exactly = exactly-no (λ t. sound-unrefused t.sound (subst (ReadingSays book) e says)) }

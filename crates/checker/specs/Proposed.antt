@@ -1,5 +1,5 @@
 -- What is promised of the rewriting that is given: its rows, or that it is no rewriting to look at.
-use Rattle.std.specs.Prelude.{◌≡◌, List, ℕ, ◌≤◌, length, replicate}
+use Rattle.std.specs.Prelude.{◌≡◌, List, ℕ, length, replicate, Option, Some, None}
 use Rattle.spec.specs.Words.{Rule}
 use Rattle.spec.specs.Book.{Book}
 use Rattle.spec.specs.RuleLayout.{rule_bytes, Layout}
@@ -15,27 +15,26 @@ use Rattle.checker.specs.declared.proposal.Proposal.{Proposal}
 abbrev pub empty : List ℕ
 empty = replicate question_codes 0
 
-abbrev pub no_rows : Proposal
-no_rows = record { count = 0; codes = empty }
-
-module _ (b : Book) (rewriting : List ℕ) (r : Proposal) where
+module _ (b : Book) (rewriting : List ℕ) where
   -- The bytes are no "one whole rule by the layout with 1 to 12 subgoals over admitted summaries and the question's head".
-  pub record NotProposed : Type 0 where
-    pub none : (rule : Rule ℕ) → RewritingRule b rule → rule_bytes rule ≡ rewriting → ⊥
-    pub codes : r.codes ≡ empty
+  abbrev pub NotProposed : Type 0
+  NotProposed = (rule : Rule ℕ) → RewritingRule b rule → rule_bytes rule ≡ rewriting → ⊥
 
   -- They are such a rule: its rows, as codes, stand at the front, and zeros behind them.
-  pub record IsProposed : Type 0 where
+  pub record IsProposed (r : Proposal) : Type 0 where
     pub rule : Rule ℕ
     pub is : RewritingRule b rule
     pub written : rule_bytes rule ≡ rewriting
     pub count : r.count ≡ length rule.body
     pub codes : r.codes ≡ at_front (codes_of term_code rule.body) empty
 
--- Of every value of the book: no rows exactly if the bytes are no such rule, else its rows.
-pub record ProposalSays (book rewriting : List ℕ) (r : Proposal) : Type 0 where
-  pub none : (b : Book) → SoundBook book b → r.count ≡ 0 → NotProposed b rewriting r
-  pub some : (b : Book) → SoundBook book b → 1 ≤ r.count → IsProposed b rewriting r
+  abbrev pub Proposed : Option Proposal → Type 0
+  Proposed None = NotProposed
+  Proposed (Some r) = IsProposed r
+
+-- Of every value of the book: none exactly if the bytes are no such rule, else its rows.
+pub record ProposalSays (book rewriting : List ℕ) (r : Option Proposal) : Type 0 where
+  pub says : (b : Book) → SoundBook book b → Proposed b rewriting r
 
 -- A sound book, and the bytes of a rule that has its question's head, laid out over the lengths of its summaries' heads.
 pub record RowsReadNeeds (book rewriting lengths : List ℕ) : Type 0 where

@@ -24,10 +24,8 @@ pub(crate) fn head_lengths(book: &[u8]) -> [u8; MOST_SUMMARIES + 1]
 {
     let n = count_of(book);
     let mut table = [0u8; MOST_SUMMARIES + 1];
-    let mut i: usize = 0;
-    while i < n {
-        i += 1;
-        table[i] = head_at(book, i);
+    for i in 0..n {
+        table[i + 1] = head_at(book, i + 1);
     }
     table
 }

@@ -9,18 +9,16 @@ use admission::summaries::is_in;
 use codes::SUBGOAL_CODES;
 use contents::fields::count_of;
 use rule_codes::heads::head_codes;
-use rules::{Verdict, judge};
-use spec::{MOST_HEAD, QUESTION_GOALS};
+use rules::{Defect, judge};
+use spec::QUESTION_GOALS;
 
 // Whether the bytes are one whole rule of 1 to 12 subgoals over summaries whose heads are so long; whether it is safe is not asked here.
 pub(crate) fn is_laid_out(rewriting: &[u8], lengths: &[u8]) -> bool
     ensures { LaidOut lengths.now rewriting.now result }
 {
     match judge(rewriting, lengths, QUESTION_GOALS, false) {
-        Verdict::Sound => true,
-        Verdict::Unsafe => true,
-        Verdict::Repeats => true,
-        Verdict::Broken(_) => false,
+        Err(Defect::Broken(_)) => false,
+        Ok(()) | Err(Defect::Unsafe | Defect::Repeats) => true,
     }
 }
 
@@ -29,16 +27,7 @@ pub(crate) fn same_heads(a: &[u8], b: &[u8]) -> bool
     requires { Laid a.now × Laid b.now }
     ensures { SameHeads a.now b.now result }
 {
-    let x = head_codes(a);
-    let y = head_codes(b);
-    let mut k: usize = 0;
-    while k < MOST_HEAD {
-        if x[k] != y[k] {
-            return false;
-        }
-        k += 1;
-    }
-    true
+    head_codes(a) == head_codes(b)
 }
 
 // Whether a number is that of an admitted summary: "Summaries are numbered from 1".
@@ -60,12 +49,10 @@ pub(crate) fn all_admitted(book: &[u8], codes: &[u64], count: usize) -> bool
     requires { SomeSound book.now × (subgoal_size * count ≤ length codes.now) }
     ensures { AdmitsAll book.now codes.now count result }
 {
-    let mut i: usize = 0;
-    while i < count {
+    for i in 0..count {
         if !admits(book, codes[SUBGOAL_CODES * i] as usize) {
             return false;
         }
-        i += 1;
     }
     true
 }

@@ -6,6 +6,7 @@ use spec::{MOST_ROWS, QUESTION_GOALS, SUMMARY_GOALS, VARIABLES};
 // A subgoal is so many codes: its relation, and a term for each place of the widest one.
 pub const SUBGOAL_CODES: usize = 9;
 
+// A code is a number, not an enum of terms: all definitions and theorems over codes (specs/Code, search_meaning) speak of numbers.
 // The tags of codes: a variable, a constant, a use's own variable. A code's number is below the unit of the tags.
 pub const UNIT: u64 = 4294967296;
 

@@ -1,9 +1,59 @@
 // Many books on standard input, each after its size.
-ghost use Rattle.std.specs.Prelude.{◌≤◌, IfOk};
+ghost use Rattle.std.specs.Prelude.{◌≤◌, IfOk, IfErr};
 ghost use Rattle.std.specs.Io.{ReadsAtMost};
 
+use spec::LONGEST_BOOK;
 use std::io;
-use std::io::{ErrorKind, Read};
+use std::io::{ErrorKind, Read, Write};
+
+// Room for a book: one byte more than the longest sound one. What a book has past that changes nothing, it is refused with 2.
+pub const BOOK_ROOM: usize = LONGEST_BOOK + 1;
+
+// One after the other, as long as there is one; answers the first error.
+// A proved loop has to end, and nothing says that the input does: no input uses up so many turns.
+pub fn each<F: FnMut() -> io::Result<bool>>(mut next: F) -> io::Result<()>
+    requires { F.IsAlwaysCallable next }
+    ensures { IfErr result (λ e. (f : _) × (f' : _) × F.step f (Err e) f') }
+{
+    for _ in 0..u64::MAX {
+        if !next()? {
+            break;
+        }
+    }
+    Ok(())
+}
+
+// The one book that the input is, given to what prints of it.
+pub fn one_book<R: Read, F: FnOnce(&[u8]) -> io::Result<()>>(
+    input: &mut R,
+    print: F,
+) -> io::Result<()>
+    requires { F.IsAlwaysCallable print }
+{
+    let mut book = [0u8; BOOK_ROOM];
+    let n = fill(input, &mut book, u64::MAX)?;
+    print(&book[..n])
+}
+
+// The next of many books, given to what prints of it; answers whether there was one. What is printed is written as soon as it is known.
+pub fn next_book<R: Read, W: Write, F: FnOnce(&mut W, &[u8]) -> io::Result<()>>(
+    input: &mut R,
+    out: &mut W,
+    print: F,
+) -> io::Result<bool>
+    requires { F.IsAlwaysCallable print }
+{
+    let Some(size) = size(input)? else {
+        return Ok(false);
+    };
+    let size = u64::from(size);
+    let mut book = [0u8; BOOK_ROOM];
+    let n = fill(input, &mut book, size)?;
+    print(out, &book[..n])?;
+    out.flush()?;
+    pass(input, size - n as u64)?;
+    Ok(true)
+}
 
 // The size that stands before the next book, or none where the input ends.
 pub fn size<R: Read>(input: &mut R) -> io::Result<Option<u32>> {

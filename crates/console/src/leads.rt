@@ -7,20 +7,14 @@ use crate::text::{end_line, print_after, print_text};
 use admission::{lead_of, size_of};
 use contents::fields::stamp_at;
 use contents::load;
-use spec::{Lead, Loaded};
 use std::io;
 use std::io::Write;
 
-fn print_lead<W: Write>(out: &mut W, lead: Lead) -> io::Result<()> {
+fn print_lead<W: Write>(out: &mut W, lead: Option<i32>) -> io::Result<()> {
     match lead {
-        Lead::Unfilled => print_text(out, " lead none"),
-        Lead::Ahead(by) => {
-            if by < 0 {
-                print_after(out, " lead -", size_of(by))
-            } else {
-                print_after(out, " lead ", size_of(by))
-            }
-        }
+        None => print_text(out, " lead none"),
+        Some(by) if by < 0 => print_after(out, " lead -", size_of(by)),
+        Some(by) => print_after(out, " lead ", size_of(by)),
     }
 }
 
@@ -35,7 +29,7 @@ fn print_view<W: Write>(out: &mut W, book: &[u8], summary: usize) -> io::Result<
 
 // Nothing where the contents do not load.
 pub(crate) fn print_leads<W: Write>(out: &mut W, book: &[u8]) -> io::Result<()> {
-    let Loaded::Good(n) = load(book) else {
+    let Ok(n) = load(book) else {
         return Ok(());
     };
     print_after(out, "need ", stamp_at(book, 1) as u64)?;

@@ -18,13 +18,15 @@ use crate::leads::print_leads;
 use crate::rewriting::print_rewriting;
 use crate::witness::{print_back, print_there};
 use contents::entry;
+use spec::{Lengths, Reason};
 use std::io;
 use std::io::Write;
 
-// The line of a refusal.
-pub fn print_refusal<W: Write>(out: &mut W, number: u8, place: usize) -> io::Result<()>
-    ensures { OnOk result (Appends (W.contents out.old) (W.contents out.new) (refusal_line number place)) }
+// The line of a refusal. (Here and below one `writeln!`, whose bytes the promise names; an `impl Display` would have to promise them a second time.)
+pub fn print_refusal<W: Write>(out: &mut W, reason: Reason) -> io::Result<()>
+    ensures { OnOk result (Appends (W.contents out.old) (W.contents out.new) (refusal_line reason.number reason.place)) }
 {
+    let Reason { number, place } = reason;
     writeln!(out, "refused {number} at {place}")
 }
 
@@ -43,9 +45,10 @@ pub fn print_listing<W: Write>(
 }
 
 // The line that tells the lengths of answer and witness.
-pub fn print_lengths<W: Write>(out: &mut W, answer: usize, witness: usize) -> io::Result<()>
-    ensures { OnOk result (Appends (W.contents out.old) (W.contents out.new) (lengths_line answer witness)) }
+pub fn print_lengths<W: Write>(out: &mut W, long: Lengths) -> io::Result<()>
+    ensures { OnOk result (Appends (W.contents out.old) (W.contents out.new) (lengths_line long.answer long.witness)) }
 {
+    let Lengths { answer, witness } = long;
     writeln!(out, "done {answer} {witness}")
 }
 

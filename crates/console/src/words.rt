@@ -26,6 +26,7 @@ pub fn path_of(name: &[u8]) -> io::Result<&str> {
     }
 }
 
+// A buffer with its length, since the programs have fixed memory.
 // The system's own words for an error, as far as they fit, without the number that std puts after them.
 #[derive(Drop)]
 struct Reason {

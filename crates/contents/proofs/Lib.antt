@@ -1,4 +1,3 @@
-pub mod Answers
 pub mod Arities
 pub mod Entries
 pub mod Records

@@ -21,6 +21,7 @@ pub fn entries_of(n: usize) -> usize
 }
 
 // Entry i's twelve bytes have to be there: in a book that loads they are, for every entry that it has (`loads-room`).
+// The three are one line each; a reader that takes the place within the entry would be no plainer.
 pub fn offset_at(book: &[u8], i: usize) -> usize
     requires { 14 + 12 * i ≤ length book.now }
     ensures { (result ≡ offset_at book.now i) × (result < 4294967296) }

@@ -2,30 +2,29 @@
 ghost use Rattle.std.specs.Prelude.{◌≡◌, ◌<◌};
 ghost use Rattle.spec.specs.Contents.{count, NoGaps};
 ghost use Rattle.spec.specs.Refusals.{Fault4};
+ghost use Rattle.spec.specs.declared.Refused.TheVariants.{Contents};
 ghost use Rattle.contents.specs.Entries.Steps.{StepSays};
 
 use crate::fields::{entries_of, length_at, offset_at};
-use crate::steps::Step;
+use spec::Refused;
 
-pub fn no_gaps(book: &[u8], n: usize) -> Step
+pub fn no_gaps(book: &[u8], n: usize) -> Result<(), Refused>
     requires { (n ≡ count book.now) × (n < 65536) }
-    ensures { StepSays (NoGaps book.now) (Fault4 book.now) result }
+    ensures { StepSays (NoGaps book.now) (Fault4 book.now) Contents result }
 {
     let entries = entries_of(n);
     let mut begin = 2 + 12 * entries;
     if book.len() < begin {
-        return Step::Fault;
+        return Err(Refused::Contents);
     }
-    let mut i: usize = 0;
-    while i < entries {
+    for i in 0..entries {
         if offset_at(book, i) != begin {
-            return Step::Fault;
+            return Err(Refused::Contents);
         }
-        begin = begin + length_at(book, i);
-        i += 1;
+        begin += length_at(book, i);
     }
     if begin != book.len() {
-        return Step::Fault;
+        return Err(Refused::Contents);
     }
-    Step::Passed
+    Ok(())
 }

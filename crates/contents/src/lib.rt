@@ -6,46 +6,35 @@ ghost use Rattle.spec.specs.EntryPart.{EntryPart};
 
 pub mod fields; // count, offset, length and stamp, as numbers
 mod gaps; // the rule of no gaps
-pub mod reasons; // refusals as they are told
 mod relations; // entry 0
-mod steps; // what a step of the loading answers
 pub mod table; // the contents as records in a lent table
 
 use crate::fields::{count_of, entries_of, length_at, offset_at};
 use crate::gaps::no_gaps;
-use crate::reasons::of_book;
 use crate::relations::right_relations;
-use crate::steps::Step;
-use spec::{LONGEST_BOOK, Loaded, MOST_SUMMARIES};
+use spec::{LONGEST_BOOK, MOST_SUMMARIES, Refused};
 
-pub fn load(book: &[u8]) -> Loaded
+pub fn load(book: &[u8]) -> Result<usize, Refused>
     ensures { LoadSays book.now result }
 {
     let size = book.len();
-    if size < 2 {
-        return Loaded::Refused(of_book(2));
-    }
-    if LONGEST_BOOK < size {
-        return Loaded::Refused(of_book(2));
+    if size < 2 || LONGEST_BOOK < size {
+        return Err(Refused::Size);
     }
     let n = count_of(book);
     if MOST_SUMMARIES < n {
-        return Loaded::Refused(of_book(3));
+        return Err(Refused::Count);
     }
-    let Step::Passed = no_gaps(book, n) else {
-        return Loaded::Refused(of_book(4));
-    };
-    let Step::Passed = right_relations(book) else {
-        return Loaded::Refused(of_book(5));
-    };
-    Loaded::Good(n)
+    no_gaps(book, n)?;
+    right_relations(book)?;
+    Ok(n)
 }
 
 // The entry's own part of the book, or the empty part at its start.
 pub fn entry(book: &[u8], i: usize) -> &[u8]
     ensures { EntryPart book.entry i result }
 {
-    let Loaded::Good(n) = load(book) else {
+    let Ok(n) = load(book) else {
         return &book[0..0];
     };
     if entries_of(n) <= i {

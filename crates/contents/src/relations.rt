@@ -2,45 +2,38 @@
 ghost use Rattle.spec.specs.BookLayout.{Arities};
 ghost use Rattle.spec.specs.Contents.{NoGaps, RightRelations};
 ghost use Rattle.spec.specs.Refusals.{Fault5};
+ghost use Rattle.spec.specs.declared.Refused.TheVariants.{Relations};
 ghost use Rattle.contents.specs.Entries.Steps.{StepSays};
 
 use crate::fields::{length_at, offset_at, stamp_at};
-use crate::steps::Step;
-use spec::{MOST_ARITY, MOST_RELATIONS};
+use spec::{MOST_ARITY, MOST_RELATIONS, Refused};
 
 const LEAST_ARITY: u8 = 1;
 
 const WIDEST: u8 = MOST_ARITY as u8;
 
-fn right_arities(part: &[u8]) -> Step
-    ensures { StepSays (Arities part.now) (Arities part.now → ⊥) result }
+fn right_arities(part: &[u8]) -> Result<(), Refused>
+    ensures { StepSays (Arities part.now) (Arities part.now → ⊥) Relations result }
 {
     let many = part.len();
-    if many < 1 {
-        return Step::Fault;
+    if many < 1 || MOST_RELATIONS < many {
+        return Err(Refused::Relations);
     }
-    if MOST_RELATIONS < many {
-        return Step::Fault;
+    if part
+        .iter()
+        .any(|arity| *arity < LEAST_ARITY || WIDEST < *arity)
+    {
+        return Err(Refused::Relations);
     }
-    let mut i: usize = 0;
-    while i < many {
-        if part[i] < LEAST_ARITY {
-            return Step::Fault;
-        }
-        if WIDEST < part[i] {
-            return Step::Fault;
-        }
-        i += 1;
-    }
-    Step::Passed
+    Ok(())
 }
 
-pub fn right_relations(book: &[u8]) -> Step
+pub fn right_relations(book: &[u8]) -> Result<(), Refused>
     requires { NoGaps book.now }
-    ensures { StepSays (RightRelations book.now) (Fault5 book.now) result }
+    ensures { StepSays (RightRelations book.now) (Fault5 book.now) Relations result }
 {
     if stamp_at(book, 0) != 0 {
-        return Step::Fault;
+        return Err(Refused::Relations);
     }
     let offset = offset_at(book, 0);
     let end = offset + length_at(book, 0);

@@ -1,7 +1,7 @@
 -- A row is dropped where another stands for it, and nothing is lost.
-use mathlib.Core.Path.{◌≡◌, refl}
-use mathlib.Core.Bool.{Bool, true, false, cond}
-use mathlib.Core.Logic.{◌↔◌}
+use mathlib.Core.Path.{◌≡◌}
+use mathlib.Core.Bool.{Bool, true, false, cond, Bool-set}
+use mathlib.Core.Logic.{◌↔◌, ∥∥₁_elim}
 use mathlib.Core.List.{List}
 use Prim.Native.Nat.{ℕ, ◌<◌}
 use native.Mathlib.Omega.{arith}
@@ -22,20 +22,9 @@ use Rattle.placing.specs.FirstPlaces.{Enough}
 use Rattle.first_shortest.specs.Pruning.{Table, FeasibilityNeeds, Spared, Pruned}
 use Rattle.first_shortest.proofs.Tests.{feasible-can}
 
--- what is spared
-module _ {used may over row others there : ℕ} {a : Bool} (os : others ≡ without over row) (ts : there ≡ bit_or used may) (m : Meets others there a) where
-  pub spared-dropped : {r : ℕ} → a ≡ true → r ≡ without may row → Spared used may over row r
-  spared-dropped z e = record { drops = true; exactly = rw (os, ts, z) at m; result = e }
-
-  pub spared-kept : a ≡ false → Spared used may over row may
-  spared-kept z = record { drops = false; exactly = rw (os, ts, z) at m; result = refl }
-
-pub pruned-start : (dom : List ℕ) (n used may : ℕ) → Pruned dom n used may may
-pruned-start dom n used may = record { same = λ s q rows e o b. (λ c. c, λ c. c) }
-
 module _ {dom : List ℕ} {n used may kept row : ℕ} (p : Pruned dom n used may kept) (here : row < n) where
   dropped : Meets (without (get_or dom row 0) row) (bit_or used kept) true → Pruned dom n used may (without kept row)
-  dropped m = record { same = λ s q rows e o b. let x = p.same s q rows e o b in let y = drops s q rows e o b in (λ c. y.0 (x.0 c), λ c. x.1 (y.1 c)) }
+  dropped m = record { less = λ u h. p.less u (without-out kept row u h).0; same = λ s q rows e o b. let x = p.same s q rows e o b in let y = drops s q rows e o b in (λ c. y.0 (x.0 c), λ c. x.1 (y.1 c)) }
     where
       w : (x : ℕ) × Has (without (get_or dom row 0) row) x × Has (bit_or used kept) x
       w = meets-some _ _ m
@@ -55,15 +44,19 @@ module _ {dom : List ℕ} {n used may kept row : ℕ} (p : Pruned dom n used may
       go false m z = rw z p
 
 -- The search over fewer rows answers for all.
-pub pruned-enough : {t : Task} {b : List ℕ} {n : ℕ} {dom : List ℕ} {used may fewer left : ℕ} {a : Bool}
-    → FeasibilityNeeds t b n dom → Pruned dom n used may fewer → Enough t b used fewer left a → Enough t b used may left a
-pruned-enough {t} {b} {n} {dom} {used} {may} {fewer} {left} o p e = record { exactly = (λ h. f.1 (s.1 (g.0 (e.exactly.0 h))), λ h. e.exactly.1 (g.1 (s.0 (f.0 h)))) }
-  where
-    f : Feasible t b used may left ↔ CanBy o.task.summaries o.task.question o.task.rows (Has used) (Has may) left
-    f = feasible-can o.task.by used may left
+module _ {t : Task} {b : List ℕ} {n : ℕ} {dom : List ℕ} {used may fewer left : ℕ} (p : Pruned dom n used may fewer) where
+  among-more : Feasible t b used fewer left → Feasible t b used may left
+  among-more f = record {
+    places = f.places;
+    mapped = f.mapped;
+    within = record { taken = f.within.taken; few = f.within.few; allowed = λ row m. p.less row (f.within.allowed row m); each = f.within.each };
+  }
 
-    g : Feasible t b used fewer left ↔ CanBy o.task.summaries o.task.question o.task.rows (Has used) (Has fewer) left
-    g = feasible-can o.task.by used fewer left
+  among-fewer : FeasibilityNeeds t b n dom → Feasible t b used may left → Feasible t b used fewer left
+  among-fewer o f =
+      let all = feasible-can o.task.by used may left in
+      let some = feasible-can o.task.by used fewer left in
+      some.1 ((p.same _ o.task.question _ o.task.by.count o.table left).0 (all.0 f))
 
-    s : CanBy o.task.summaries o.task.question o.task.rows (Has used) (Has may) left ↔ CanBy o.task.summaries o.task.question o.task.rows (Has used) (Has fewer) left
-    s = p.same _ o.task.question _ o.task.by.count o.table left
+  pub pruned-enough : {a : Bool} → ∥ FeasibilityNeeds t b n dom ∥₁ → Enough t b used fewer left a → Enough t b used may left a
+  pruned-enough {a} o e = record { exactly = (λ z. among-more (e.exactly.0 z), λ f. ∥∥₁_elim o (Bool-set a true) (λ w. e.exactly.1 (among-fewer w f))) }

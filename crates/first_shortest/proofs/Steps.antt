@@ -3,15 +3,15 @@ use mathlib.Core.Path.{◌≡◌, refl, sym, ap, ◌∙◌}
 use mathlib.Core.Bool.{Bool, true, false, cond, true≢false}
 use mathlib.Core.Logic.{⊎_elim, ◌↔◌}
 use mathlib.Core.List.{List, [], ◌∷◌, ◌++◌}
+use Rattle.std.specs.Prelude.{Some, None}
 use Prim.Native.Nat.{ℕ, zero, suc, ◌+◌, ◌-◌, ◌<◌, ◌≤◌}
 use native.Mathlib.Omega.{arith}
-use native.Mathlib.Decide.{ℕ_discrete}
+use native.Mathlib.Decide.{dec_lt}
 use native.Mathlib.Numerals.{add-one}
 use lib.ListN.{length, take, drop, replicate, set, length-set}
 use lib.Seq.{take-suc-set, drop-set-lt, length-take-le}
 use Rattle.spec.specs.Words.{Rule}
 use Rattle.spec.specs.Summaries.{Summaries}
-use Rattle.spec.specs.BookLayout.{question_most}
 use Rattle.choice_theory.specs.Can.{Can}
 use Rattle.choice_theory.specs.Going.{AtLeast}
 use Rattle.choice_theory.specs.Marked.{Marked}
@@ -24,10 +24,10 @@ use Rattle.bits.proofs.Less.{without_is, first-in}
 use Rattle.task.specs.Task.{Task}
 use Rattle.task.specs.Mapped.{Feasible}
 use Rattle.placing.specs.FirstPlaces.{Enough}
-use Rattle.first_shortest.specs.Posed.{PosedBy, Posed}
+use Rattle.first_shortest.specs.Posed.{PosedBy}
 use Rattle.first_shortest.specs.Chosen.{ChoiceSays}
-use Rattle.first_shortest.specs.Passing.{nothing, found, starting, taking, passing, Fewest, Tried, Underway}
-use Rattle.first_shortest.specs.declared.Pass.{Pass}
+use Rattle.first_shortest.specs.Passing.{starting, taking, passing, Fewest, TooFew, Tried, Underway}
+use Rattle.first_shortest.specs.declared.pass.Pass.{Pass}
 use Rattle.first_shortest.proofs.Tests.{feasible-can}
 use Rattle.spec.proofs.Lists.Zeros.{drop-next}
 use Rattle.spec.proofs.Decided.Rows.{RowList}
@@ -57,110 +57,72 @@ feasible-more h f =
       within = record { taken = f.within.taken; few = omega (arith, f.within.few); allowed = f.within.allowed; each = f.within.each };
     }
 
-module _ {t : Task} {b : List ℕ} {all left : ℕ} {a : Bool} (given : Enough t b 0 all left a) where
-  can-do : (may : ℕ) → all ≡ may → a ≡ true → Feasible t b 0 may left
-  can-do may every z = rw every at (given.exactly.0 z)
+module _ {t : Task} {b : List ℕ} {all may left : ℕ} {a : Bool} (given : Enough t b 0 all left a) (every : all ≡ may) where
+  pub can-do : a ≡ true → Feasible t b 0 may left
+  can-do z = rw every at (given.exactly.0 z)
 
-  cannot-do : (may : ℕ) → all ≡ may → a ≡ false → Feasible t b 0 may left → ⊥
-  cannot-do may every z f = true≢false (sym (given.exactly.1 (rw every f)) ∙ z)
+  pub cannot-do : a ≡ false → Feasible t b 0 may left → ⊥
+  cannot-do z f = true≢false (sym (given.exactly.1 (rw every f)) ∙ z)
 
--- where 12 rows cannot do, fewer cannot
-pub fewest-none : {t : Task} {b : List ℕ} {n all : ℕ} {a : Bool} → all ≡ first n → Enough t b 0 all 12 a → a ≡ false → Fewest t b n 13
-fewest-none every given z = record { few = omega arith; fewer = λ j h f. cannot-do given _ every z (feasible-more (omega arith) f); can = λ l. absurd (omega arith) }
+  -- where so many rows cannot do, fewer cannot
+  pub never-do : a ≡ false → (j : ℕ) → j ≤ left → Feasible t b 0 may j → ⊥
+  never-do z j h f = cannot-do z (feasible-more h f)
 
--- Tried from 0 up: fewer than k cannot do.
-pub record Cannot (t : Task) (b : List ℕ) (n k : ℕ) : Type 0 where
-  pub few : k ≤ 12
-  pub fewer : (j : ℕ) → j < k → Feasible t b 0 (first n) j → ⊥
-
-pub cannot-start : (t : Task) (b : List ℕ) (n : ℕ) → Cannot t b n 0
-cannot-start t b n = record { few = omega arith; fewer = λ j h. absurd (omega arith) }
-
-module _ {t : Task} {b : List ℕ} {n k : ℕ} (c : Cannot t b n k) where
-  module _ {all : ℕ} {a : Bool} (every : all ≡ first n) (given : Enough t b 0 all k a) where
-    pub fewest-here : a ≡ true → Fewest t b n k
-    fewest-here z = record { few = omega (arith, c.few); fewer = c.fewer; can = λ l. can-do given _ every z }
-
-    pub cannot-next : k < 12 → a ≡ false → Cannot t b n (k + 1)
-    cannot-next h z = record { few = omega arith; fewer = λ j l f. elim (ℕ_discrete j k) [ yes o ↦ cannot-do given _ every z (rw o at f) | no o ↦ c.fewer j (omega arith) f ] }
-
-  pub fewest-last : {all : ℕ} {a : Bool} → 12 ≤ k → all ≡ first n → Enough t b 0 all 12 a → a ≡ true → Fewest t b n k
-  fewest-last h every given z = let e : k ≡ 12 = omega (arith, c.few) in record { few = omega arith; fewer = c.fewer; can = λ l. rw e (can-do given _ every z) }
-
--- k can do
 module _ {t : Task} {b : List ℕ} {n k : ℕ} (f : Fewest t b n k) where
-  pub underway-start : k ≤ question_most → Underway t b n 0 (starting n k)
-  unfolding starting
-  underway-start h = record {
-    few = omega arith;
+  pub underway-start : Underway t b n 0 (starting n k)
+  underway-start = record {
+    few = omega (arith, f.few);
     long = refl;
     rest = refl;
-    by = λ s q rows p. record { going = going_start s q rows k (at_least p k f.fewer) ((can-start p k).0 (f.can h)); marked = marked-none p };
+    by = λ s q rows p. record { going = going_start s q rows k (at_least p k f.fewer) ((can-start p k).0 f.can); marked = marked-none p };
   }
 
-  -- 12 cannot do
-  pub chooses_none : question_most < k → ChoiceSays t b n nothing
-  unfolding nothing
-  chooses_none h = record {
-    by = λ s q rows p. record {
-      found = λ e. let z : ◌≡◌ {A = ℕ} 0 1 = cc in absurd (omega arith);
-      none = λ e. record { none = at-least-none s q rows p.all k (at_least p k f.fewer) (omega (arith, p.bounds.question.few)); count = refl; rest = refl };
-    };
-  }
-
--- what a try says
-module _ {t : Task} {b : List ℕ} {row : ℕ} {p after : Pass} {used may : ℕ} {a : Bool} (us : used ≡ with p.used row) (ms : may ≡ without p.may row) (e : Enough t b used may (p.left - 1) a) where
-  pub tried-taken : a ≡ true → after ≡ taking p row → Tried t b row p after
-  tried-taken z r = record { answer = true; exactly = rw (us, ms, z) at e; result = r }
-
-  pub tried-passed : a ≡ false → after ≡ passing p row → Tried t b row p after
-  tried-passed z r = record { answer = false; exactly = rw (us, ms, z) at e; result = r }
+-- 12 cannot do
+pub chooses_none : {t : Task} {b : List ℕ} {n : ℕ} → TooFew t b n → ChoiceSays t b n None
+chooses_none f = record {
+  by = λ s q rows p. record { none = at-least-none s q rows p.all 13 (at_least p 13 (λ j h. f.never j (omega arith))) (omega (arith, p.bounds.question.few)) };
+}
 
 module _ {t : Task} {b : List ℕ} {n row : ℕ} {p : Pass} (w : Underway t b n row p) where
-  pub underway-within : Posed t b n → 0 < p.left → row < n
-  underway-within o h = omega (arith, going-within o.summaries o.question o.rows (w.by _ _ _ o.by).going h, o.by.count)
-
-  -- The end: the rows taken are the answer.
-  pub chooses-found : p.left ≤ 0 → ChoiceSays t b n (found p)
-  unfolding found
-  chooses-found h = record {
-    by = λ s q rows o. record {
-      found = λ e. let g = (w.by s q rows o).going in let z : p.left ≡ 0 = omega arith in record {
-        few = omega (arith, w.few);
-        count = length-take-le p.k p.rows (omega (arith, w.few, w.long));
-        within = λ u m. omega (arith, g.earlier u m, g.within);
-        answer = going-answer s q rows o.all (rw z at g);
-        rest = w.rest;
-      };
-      none = λ e. let z : ◌≡◌ {A = ℕ} 0 1 = cc in absurd (omega arith);
-    };
+  -- The end: none is left to take, or no row is left. The rows taken are the answer.
+  pub chooses-found : (0 < p.left → n ≤ row) → ChoiceSays t b n (Some p.chosen)
+  chooses-found over = record {
+    by = λ s q rows o.
+        let g = (w.by s q rows o).going in
+        let none : p.left ≡ 0 = elim (dec_lt 0 p.left) [ yes h ↦ omega (arith, going-within s q rows g h, over h, o.count) | no h ↦ omega arith ] in
+        record {
+          few = omega (arith, w.few);
+          count = length-take-le p.chosen.k p.chosen.rows (omega (arith, w.few, w.long));
+          within = λ u m. omega (arith, g.earlier u m, g.within);
+          answer = going-answer s q rows o.all (rw none at g);
+          rest = w.rest;
+        };
   }
 
   module _ (here : row < n) (some : 0 < p.left) where
     -- what the sets say once the row is taken
     module _ {s : Summaries} {q : Rule ℕ} {rows : RowList} (o : PosedBy s q rows t b n) where
-      marked_next : Marked (length rows) (Has (with p.used row)) (Has (without p.may row)) (take p.k p.rows ++ (row ∷ [])) (row + 1)
+      marked_next : Marked (length rows) (Has (with p.used row)) (Has (without p.may row)) (take p.chosen.k p.chosen.rows ++ (row ∷ [])) (row + 1)
       marked_next = marked-taken (w.by s q rows o).marked _ _ (λ u h. (with_cases p.used row u, ⊎_elim (with-old p.used row u) (λ e. rw e (with-new p.used row)))) (λ u h. without_is p.may row u)
 
-      can-next : Feasible t b (with p.used row) (without p.may row) (p.left - 1) ↔ Can s q rows (take p.k p.rows ++ (row ∷ [])) (row + 1) (p.left - 1)
+      can-next : Feasible t b (with p.used row) (without p.may row) (p.left - 1) ↔ Can s q rows (take p.chosen.k p.chosen.rows ++ (row ∷ [])) (row + 1) (p.left - 1)
       can-next =
           let f = feasible-can o (with p.used row) (without p.may row) (p.left - 1) in
           let m = marked-can s q rows marked_next (p.left - 1) in
           (λ h. m.0 (f.0 h), λ h. f.1 (m.1 h))
 
-    taken-list : take (p.k + 1) (set p.rows p.k row) ≡ take p.k p.rows ++ (row ∷ [])
-    taken-list = rw add-one (take-suc-set p.rows p.k row (omega (arith, w.few, w.long)))
+    taken-list : take (p.chosen.k + 1) (set p.chosen.rows p.chosen.k row) ≡ take p.chosen.k p.chosen.rows ++ (row ∷ [])
+    taken-list = rw add-one (take-suc-set p.chosen.rows p.chosen.k row (omega (arith, w.few, w.long)))
 
-    taken-rest : drop (p.k + 1) (set p.rows p.k row) ≡ replicate (12 - (p.k + 1)) 0
+    taken-rest : drop (p.chosen.k + 1) (set p.chosen.rows p.chosen.k row) ≡ replicate (12 - (p.chosen.k + 1)) 0
     taken-rest =
-        let e : 12 - p.k ≡ suc (12 - (p.k + 1)) = omega (arith, w.few) in
-        rw (add-one, drop-set-lt (suc p.k) p.rows p.k row (omega arith)) (drop-next (12 - (p.k + 1)) p.rows p.k (w.rest ∙ ap (λ m. replicate m 0) e) ∙ ap (λ m. replicate (12 - m) 0) (add-one p.k))
+        let e : 12 - p.chosen.k ≡ suc (12 - (p.chosen.k + 1)) = omega (arith, w.few) in
+        rw (add-one, drop-set-lt (suc p.chosen.k) p.chosen.rows p.chosen.k row (omega arith)) (drop-next (12 - (p.chosen.k + 1)) p.chosen.rows p.chosen.k (w.rest ∙ ap (λ m. replicate m 0) e) ∙ ap (λ m. replicate (12 - m) 0) (add-one p.chosen.k))
 
     taking-underway : Feasible t b (with p.used row) (without p.may row) (p.left - 1) → Underway t b n (row + 1) (taking p row)
-    unfolding taking
     taking-underway f = record {
       few = omega (arith, w.few);
-      long = length-set p.rows p.k row ∙ w.long;
+      long = length-set p.chosen.rows p.chosen.k row ∙ w.long;
       rest = taken-rest;
       by = λ s q rows o. record {
         going = rw taken-list (going-taken s q rows (w.by s q rows o).going some ((can-next o).0 f));
@@ -169,7 +131,6 @@ module _ {t : Task} {b : List ℕ} {n row : ℕ} {p : Pass} (w : Underway t b n 
     }
 
     passing-underway : (Feasible t b (with p.used row) (without p.may row) (p.left - 1) → ⊥) → Underway t b n (row + 1) (passing p row)
-    unfolding passing
     passing-underway f = record {
       few = w.few;
       long = w.long;

@@ -1,9 +1,9 @@
 -- The promise leaves no choice: two results that meet it are the same.
 use mathlib.Core.Path.{◌≡◌, refl, sym, ap, ap₂, subst, ◌∙◌}
-use mathlib.Core.Bool.{Bool, true, false}
 use mathlib.Core.Logic.{◌⊎◌, inl, inr}
 use mathlib.Core.List.Memᴰ
 use mathlib.Core.List.{List, [], ◌∷◌, ◌++◌}
+use Rattle.std.specs.Prelude.{Option, Some, None}
 use Prim.Native.Nat.{ℕ, ◌-◌, ◌<◌}
 use native.Mathlib.Omega.{arith}
 use lib.ListN.{length, replicate, take-append-drop}
@@ -46,24 +46,24 @@ module _ (rows : RowList) (rises : Rising RowBefore rows) where
 laid : {s : Summaries} {q : Rule ℕ} {rows : RowList} (r : Chosen) → Found s q rows r → r.rows ≡ numbers_of r ++ replicate (12 - length (numbers_of r)) 0
 laid r f = sym (take-append-drop r.k r.rows) ∙ ap (◌++◌ (numbers_of r)) (f.rest ∙ ap (λ n. replicate (12 - n) 0) (sym f.count))
 
-module _ {s : Summaries} {q : Rule ℕ} {rows : RowList} (rising : Rising RowBefore rows) where
-  both_found : (r o : Chosen) → Found s q rows r → Found s q rows o → (r.k ≡ o.k) × (r.rows ≡ o.rows)
-  both_found r o f g = (sym f.count ∙ ap length e ∙ g.count, laid r f ∙ ap (λ l. l ++ replicate (12 - length l) 0) e ∙ sym (laid o g))
+module _ (s : Summaries) (q : Rule ℕ) (rows : RowList) (rising : Rising RowBefore rows) where
+  found-once : (r o : Chosen) → Found s q rows r → Found s q rows o → r ≡ o
+  found-once r o f g = λ i. record { k = counts i; rows = lists i }
     where
-      e : numbers_of r ≡ numbers_of o
-      e = numbers-once rows rising (numbers_of r) (numbers_of o) f.within g.within (first-unique shorter_order _ _ f.answer g.answer)
+      numbers : numbers_of r ≡ numbers_of o
+      numbers = numbers-once rows rising (numbers_of r) (numbers_of o) f.within g.within (first-unique shorter_order _ _ f.answer g.answer)
 
-  pub chosen-by-once : (r o : Chosen) → ChosenBy s q rows r → ChosenBy s q rows o → r ≡ o
-  chosen-by-once r o x y = go r.ok o.ok refl refl
-    where
-      same : (r.ok ≡ o.ok) → (r.k ≡ o.k) × (r.rows ≡ o.rows) → r ≡ o
-      same e h = λ i. record { ok = e i; k = h.0 i; rows = h.1 i }
+      counts : r.k ≡ o.k
+      counts = sym f.count ∙ ap length numbers ∙ g.count
 
-      go : (v w : Bool) → r.ok ≡ v → o.ok ≡ w → r ≡ o
-      go true true e f = same (e ∙ sym f) (both_found r o (x.found e) (y.found f))
-      go true false e f = absurd ((y.none f).none _ (x.found e).answer.holds)
-      go false true e f = absurd ((x.none e).none _ (y.found f).answer.holds)
-      go false false e f = same (e ∙ sym f) ((x.none e).count ∙ sym (y.none f).count, (x.none e).rest ∙ sym (y.none f).rest)
+      lists : r.rows ≡ o.rows
+      lists = laid r f ∙ ap (λ l. l ++ replicate (12 - length l) 0) numbers ∙ sym (laid o g)
 
-pub chosen-once : {t : Task} {b : List ℕ} {n : ℕ} (p : Posed t b n) (r o : Chosen) → ChoiceSays t b n r → ChoiceSays t b n o → r ≡ o
-chosen-once p r o c d = chosen-by-once p.by.all.rising r o (c.by _ _ _ p.by) (d.by _ _ _ p.by)
+  pub chosen-by-once : (r o : Option Chosen) → ChosenBy s q rows r → ChosenBy s q rows o → r ≡ o
+  chosen-by-once (Some r) (Some o) f g = ap Some (found-once r o f g)
+  chosen-by-once (Some r) None f n = absurd (n.none _ f.answer.holds)
+  chosen-by-once None (Some o) n g = absurd (n.none _ g.answer.holds)
+  chosen-by-once None None n m = refl
+
+pub chosen-once : {t : Task} {b : List ℕ} {n : ℕ} (p : Posed t b n) (r o : Option Chosen) → ChoiceSays t b n r → ChoiceSays t b n o → r ≡ o
+chosen-once p r o c d = chosen-by-once p.summaries p.question p.rows p.by.all.rising r o (c.by _ _ _ p.by) (d.by _ _ _ p.by)

@@ -1,8 +1,9 @@
 -- Whether a row dominates another, on codes.
 use mathlib.Core.Path.{◌≡◌, refl, sym, subst}
-use mathlib.Core.Bool.{Bool, true, false}
+use mathlib.Core.Bool.{Bool, false≢true}
 use mathlib.Core.Logic.{◌↔◌}
 use mathlib.Core.List.{List}
+use Rattle.std.specs.Prelude.{Option, Some, None, is_some}
 use Prim.Native.Nat.{ℕ}
 use lib.ListN.{replicate}
 use Rattle.spec.specs.Summaries.{Summaries}
@@ -13,7 +14,6 @@ use Rattle.bits.proofs.Laws.{exactly-once}
 use Rattle.task.specs.Task.{Task, Sized}
 use Rattle.task.specs.Mapped.{Mapped}
 use Rattle.placing.specs.FirstPlaces.{FirstPlaces}
-use Rattle.placing.specs.declared.Places.{Places}
 use Rattle.search_meaning.specs.Coded.{Bound}
 use Rattle.search_meaning.proofs.Dominance.{use-sized, dominates-is}
 use Rattle.first_shortest.specs.Pruning.{UsesBy, DominanceNeeds, DominanceSays}
@@ -33,12 +33,9 @@ module _ {s : Summaries} {rows : RowList} {d r : ℕ} {t : Task} (p : UsesBy s r
 pub uses-sized : {t : Task} → DominanceNeeds t → Sized t
 uses-sized u = sized-by u.by
 
-pub tells : {t : Task} (r : Places) → FirstPlaces t (replicate 64 0) r → DominanceSays t r.ok
-tells {t} o f = record { exactly = λ s rows d r p. (λ e. let l = f.found e in (mapped-dominates p).0 (l.0, l.2.holds), λ h. go o.ok refl ((mapped-dominates p).1 h)) }
-  where
-    go : (a : Bool) → o.ok ≡ a → ((l : List ℕ) × Mapped t (replicate 64 0) l) → o.ok ≡ true
-    go true e m = e
-    go false e m = absurd ((f.none e).1 m.0 m.1)
+pub tells : {t : Task} (r : Option (List ℕ)) → FirstPlaces t (replicate 64 0) r → DominanceSays t (is_some r)
+tells (Some ks) f = record { exactly = λ s rows d r p. (λ z. (mapped-dominates p).0 (f.0, f.2.holds), λ h. refl) }
+tells None f = record { exactly = λ s rows d r p. (λ z. absurd (false≢true z), λ h. let m = (mapped-dominates p).1 h in absurd (f m.0 m.1)) }
 
 -- two answers that meet the promise are the same
 pub dominates-once : {t : Task} → DominanceNeeds t → (a b : Bool) → DominanceSays t a → DominanceSays t b → a ≡ b

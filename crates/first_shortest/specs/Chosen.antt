@@ -1,5 +1,5 @@
 -- What the choice of rows promises.
-use Rattle.std.specs.Prelude.{◌≡◌, true, false, List, ℕ, ◌-◌, ◌<◌, ◌≤◌, length, take, drop, replicate}
+use Rattle.std.specs.Prelude.{◌≡◌, List, Option, Some, None, ℕ, ◌-◌, ◌<◌, ◌≤◌, length, take, drop, replicate}
 use Rattle.spec.specs.Words.{◌∈◌, Rule}
 use Rattle.spec.specs.Summaries.{Summaries}
 use Rattle.spec.specs.Answer.{Rewrites, Answer}
@@ -22,16 +22,14 @@ pub record Found (s : Summaries) (q : Rule ℕ) (rows : RowList) (r : Chosen) : 
   pub answer : Answer s q (rows_at rows (numbers_of r))
   pub rest : drop r.k r.rows ≡ replicate (question_most - r.k) 0
 
--- "no equivalent list exists", and then the rows say nothing
-pub record NotFound (s : Summaries) (q : Rule ℕ) (r : Chosen) : Type 0 where
+-- "no equivalent list exists"
+pub record NotFound (s : Summaries) (q : Rule ℕ) : Type 0 where
   pub none : (l : RowList) → Rewrites s q l → ⊥
-  pub count : r.k ≡ 0
-  pub rest : r.rows ≡ replicate question_most 0
 
-pub record ChosenBy (s : Summaries) (q : Rule ℕ) (rows : RowList) (r : Chosen) : Type 0 where
-  pub found : r.ok ≡ true → Found s q rows r
-  pub none : r.ok ≡ false → NotFound s q r
+abbrev pub ChosenBy : Summaries → Rule ℕ → RowList → Option Chosen → Type 0
+ChosenBy s q rows (Some r) = Found s q rows r
+ChosenBy s q rows None = NotFound s q
 
 -- Of every question whose task it is.
-pub record ChoiceSays (t : Task) (b : List ℕ) (n : ℕ) (r : Chosen) : Type 0 where
+pub record ChoiceSays (t : Task) (b : List ℕ) (n : ℕ) (r : Option Chosen) : Type 0 where
   pub by : (s : Summaries) (q : Rule ℕ) (rows : RowList) → PosedBy s q rows t b n → ChosenBy s q rows r

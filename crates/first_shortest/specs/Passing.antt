@@ -1,5 +1,5 @@
 -- The steps of the choice, and what is known between them.
-use Rattle.std.specs.Prelude.{◌≡◌, Bool, true, false, cond, List, ℕ, ◌+◌, ◌-◌, ◌<◌, ◌≤◌, length, take, drop, replicate, set}
+use Rattle.std.specs.Prelude.{◌≡◌, Bool, cond, List, Option, Some, None, ℕ, ◌+◌, ◌-◌, ◌<◌, ◌≤◌, length, take, drop, replicate, set}
 use Rattle.spec.specs.Words.{Rule}
 use Rattle.spec.specs.Summaries.{Summaries}
 use Rattle.spec.specs.BookLayout.{question_most}
@@ -11,29 +11,30 @@ use Rattle.task.specs.Task.{Task}
 use Rattle.task.specs.Mapped.{Feasible}
 use Rattle.placing.specs.FirstPlaces.{Enough}
 use Rattle.first_shortest.specs.Posed.{PosedBy}
-use Rattle.first_shortest.specs.declared.Chosen.{Chosen}
-use Rattle.first_shortest.specs.declared.Pass.{Pass}
+use Rattle.first_shortest.specs.declared.pass.Pass.{Pass}
 
-unfoldable pub nothing : Chosen
-nothing = record { ok = false; k = 0; rows = replicate question_most 0 }
+abbrev pub starting : ℕ → ℕ → Pass
+starting n k = record { used = 0; may = first n; left = k; chosen = record { k = 0; rows = replicate question_most 0 } }
 
-unfoldable pub found : Pass → Chosen
-found p = record { ok = true; k = p.k; rows = p.rows }
+abbrev pub taking : Pass → ℕ → Pass
+taking p row = record { used = with p.used row; may = without p.may row; left = p.left - 1; chosen = record { k = p.chosen.k + 1; rows = set p.chosen.rows p.chosen.k row } }
 
-unfoldable pub starting : ℕ → ℕ → Pass
-starting n k = record { used = 0; may = first n; left = k; k = 0; rows = replicate question_most 0 }
+abbrev pub passing : Pass → ℕ → Pass
+passing p row = record { used = p.used; may = without p.may row; left = p.left; chosen = p.chosen }
 
-unfoldable pub taking : Pass → ℕ → Pass
-taking p row = record { used = with p.used row; may = without p.may row; left = p.left - 1; k = p.k + 1; rows = set p.rows p.k row }
-
-unfoldable pub passing : Pass → ℕ → Pass
-passing p row = record { used = p.used; may = without p.may row; left = p.left; k = p.k; rows = p.rows }
-
--- k rows of the n can do, and fewer cannot; 13 says that 12 cannot
+-- k rows of the n can do, and fewer cannot
 pub record Fewest (t : Task) (b : List ℕ) (n k : ℕ) : Type 0 where
-  pub few : k ≤ question_most + 1
+  pub few : k ≤ question_most
   pub fewer : (j : ℕ) → j < k → Feasible t b 0 (first n) j → ⊥
-  pub can : k ≤ question_most → Feasible t b 0 (first n) k
+  pub can : Feasible t b 0 (first n) k
+
+-- 12 cannot, nor fewer
+pub record TooFew (t : Task) (b : List ℕ) (n : ℕ) : Type 0 where
+  pub never : (j : ℕ) → j ≤ question_most → Feasible t b 0 (first n) j → ⊥
+
+abbrev pub FewestIfAny : Task → List ℕ → ℕ → Option ℕ → Type 0
+FewestIfAny t b n (Some k) = Fewest t b n k
+FewestIfAny t b n None = TooFew t b n
 
 -- The row is taken if with it, and one fewer to take, the others that may be can still do.
 pub record Tried (t : Task) (b : List ℕ) (row : ℕ) (p after : Pass) : Type 0 where
@@ -43,11 +44,11 @@ pub record Tried (t : Task) (b : List ℕ) (row : ℕ) (p after : Pass) : Type 0
 
 -- Underway, at the row `row`: those taken are marked as used, those from `row` on may be.
 pub record UnderwayBy (s : Summaries) (q : Rule ℕ) (rows : RowList) (row : ℕ) (p : Pass) : Type 0 where
-  pub going : PassState s q rows (take p.k p.rows) row p.left
-  pub marked : Marked (length rows) (Has p.used) (Has p.may) (take p.k p.rows) row
+  pub going : PassState s q rows (take p.chosen.k p.chosen.rows) row p.left
+  pub marked : Marked (length rows) (Has p.used) (Has p.may) (take p.chosen.k p.chosen.rows) row
 
 pub record Underway (t : Task) (b : List ℕ) (n row : ℕ) (p : Pass) : Type 0 where
-  pub few : p.k + p.left ≤ question_most
-  pub long : length p.rows ≡ question_most
-  pub rest : drop p.k p.rows ≡ replicate (question_most - p.k) 0
+  pub few : p.chosen.k + p.left ≤ question_most
+  pub long : length p.chosen.rows ≡ question_most
+  pub rest : drop p.chosen.k p.chosen.rows ≡ replicate (question_most - p.chosen.k) 0
   pub by : (s : Summaries) (q : Rule ℕ) (rows : RowList) → PosedBy s q rows t b n → UnderwayBy s q rows row p

@@ -32,6 +32,7 @@ pub record Spared (used may over row r : ℕ) : Type 0 where
 
 -- With fewer rows that may be taken the used rows can be completed just as before.
 pub record Pruned (dom : List ℕ) (n used may fewer : ℕ) : Type 0 where
+  pub less : (row : ℕ) → Has fewer row → Has may row
   pub same : (s : Summaries) (q : Rule ℕ) (rows : RowList) → length rows ≡ n → Table s rows n dom
       → (b : ℕ) → CanBy s q rows (Has used) (Has may) b ↔ CanBy s q rows (Has used) (Has fewer) b
 

@@ -1,12 +1,13 @@
 // Whether rows can do, by the search over them less those that others dominate: wherever such a row serves, the other does. And whether a row dominates another.
-ghost use Rattle.std.specs.Prelude.{◌<◌, ◌≤◌};
+ghost use Rattle.std.specs.Prelude.{◌<◌};
 ghost use Rattle.spec.specs.Table.{most_rows};
-ghost use Rattle.task.specs.Task.{posed};
+ghost use Rattle.task.specs.Held.{task_of};
 ghost use Rattle.placing.specs.FirstPlaces.{Enough};
-ghost use Rattle.first_shortest.specs.Pruning.{Spared, Pruned, FeasibilityNeeds, DominanceNeeds, DominanceSays};
+ghost use Rattle.first_shortest.specs.Pruning.{Spared, Pruned, DominanceNeeds, DominanceSays};
 
+use crate::RowSearch;
 use codes::SLOTS;
-use spec::MOST_ROWS;
+use task::Task;
 
 // Without the row, if another that is used or may be dominates it; `over` has the rows that do.
 fn spared(used: u64, may: u64, over: u64, row: usize) -> u64
@@ -21,47 +22,31 @@ fn spared(used: u64, may: u64, over: u64, row: usize) -> u64
     may
 }
 
-// The rows that may be taken, less those that others dominate. One row is dropped at a time: of two that dominate each other one stays.
-fn pruned(dom: &[u64; MOST_ROWS], n: usize, used: u64, may: u64) -> u64
-    requires { n ≤ most_rows }
-    ensures { Pruned dom.now n used may result }
-{
-    let mut kept = may;
-    let mut row: usize = 0;
-    while row < n {
-        let fewer = spared(used, kept, dom[row], row);
-        kept = fewer;
-        row += 1;
+impl RowSearch<'_> {
+    // The rows that may be taken, less those that others dominate. One row is dropped at a time: of two that dominate each other one stays.
+    fn pruned(&self, used: u64, may: u64) -> u64
+        ensures { Pruned self.now.dominators self.now.n used may result }
+    {
+        let mut kept = may;
+        for row in 0..self.n {
+            kept = spared(used, kept, self.dominators[row], row);
+        }
+        kept
     }
-    kept
-}
 
-// Whether the rows used, and at most `left` of those that may be, can do.
-pub fn can(
-    source: &[u64],
-    widths: &[u8],
-    lasts: &[u8],
-    target: &[u64],
-    own: &[u8],
-    b: [u64; SLOTS],
-    dom: &[u64; MOST_ROWS],
-    n: usize,
-    used: u64,
-    may: u64,
-    left: usize,
-) -> bool
-    requires { FeasibilityNeeds (posed source.now widths.now lasts.now target.now own.now) b n dom.now }
-    ensures { Enough (posed source.now widths.now lasts.now target.now own.now) b used may left result }
-{
-    let kept = pruned(dom, n, used, may);
-    placing::enough(source, widths, lasts, target, own, b, used, kept, left)
+    // Whether the rows used, and at most `left` of those that may be, can do.
+    pub fn can(&self, used: u64, may: u64, left: usize) -> bool
+        ensures { Enough (task_of self.now.task) self.now.bound used may left result }
+    {
+        let kept = self.pruned(used, may);
+        placing::enough(&self.task, self.bound, used, kept, left)
+    }
 }
 
 // Whether one row dominates another: the source is the other's use, the target its own.
-pub fn dominates(source: &[u64], widths: &[u8], lasts: &[u8], target: &[u64], own: &[u8]) -> bool
-    requires { DominanceNeeds (posed source.now widths.now lasts.now target.now own.now) }
-    ensures { DominanceSays (posed source.now widths.now lasts.now target.now own.now) result }
+pub fn dominates(task: &Task) -> bool
+    requires { DominanceNeeds (task_of task.now) }
+    ensures { DominanceSays (task_of task.now) result }
 {
-    let r = placing::first_places(source, widths, lasts, target, own, [0u64; SLOTS]);
-    r.ok
+    placing::first_places(task, [0; SLOTS]).is_some()
 }

@@ -10,7 +10,8 @@ mod rooms; // how much of each is read
 mod stream; // many triples on standard input
 
 use crate::files::judge_files;
-use crate::stream::judge_many;
+use crate::stream::{judge_next, judge_repeated};
+use console::input::each;
 use console::words::{is_there, word};
 use std::io;
 use std::io::Write;
@@ -25,8 +26,8 @@ fn main(rt: HostRuntime) -> io::Result<()> {
         return out.flush();
     }
     match &first[..n] {
-        b"many" => judge_many(&mut input, &mut out, false)?,
-        b"repeat" => judge_many(&mut input, &mut out, true)?,
+        b"many" => each(|| judge_next(&mut input, &mut out, 1))?,
+        b"repeat" => each(|| judge_repeated(&mut input, &mut out))?,
         _ => eprintln!(rt; "usage: judge BOOK REWRITING WITNESS")?,
     }
     out.flush()

@@ -53,30 +53,18 @@ fn next_sizes<R: Read>(input: &mut R) -> io::Result<Option<Sizes>> {
         return Ok(None);
     };
     Ok(Some(Sizes {
-        book: book as u64,
-        rewriting: rewriting as u64,
-        witness: witness as u64,
+        book: u64::from(book),
+        rewriting: u64::from(rewriting),
+        witness: u64::from(witness),
     }))
 }
 
-// How often the next triple is checked: where that is asked for, it stands before the triple. None where the input ends.
-fn times_of<R: Read>(input: &mut R, is_repeated: bool) -> io::Result<Option<u32>> {
-    if is_repeated {
-        size(input)
-    } else {
-        Ok(Some(1))
-    }
-}
-
-// The next triple; answers whether there was one.
-fn judge_next<R: Read, W: Write>(
+// The next triple, checked so many times; answers whether there was one.
+pub(crate) fn judge_next<R: Read, W: Write>(
     input: &mut R,
     out: &mut W,
-    is_repeated: bool,
+    times: u32,
 ) -> io::Result<bool> {
-    let Some(times) = times_of(input, is_repeated)? else {
-        return Ok(false);
-    };
     let Some(sizes) = next_sizes(input)? else {
         return Ok(false);
     };
@@ -86,22 +74,22 @@ fn judge_next<R: Read, W: Write>(
     let n = take(input, &mut book, sizes.book)?;
     let k = take(input, &mut rewriting, sizes.rewriting)?;
     let m = take(input, &mut witness, sizes.witness)?;
-    let is_right = check_times(&mut book, n, &rewriting[..k], &witness[..m], times as u64);
+    let is_right = check_times(
+        &mut book,
+        n,
+        &rewriting[..k],
+        &witness[..m],
+        u64::from(times),
+    );
     print_answer(out, is_right)?;
     out.flush()?;
     Ok(true)
 }
 
-// A proved loop has to end, and nothing says that the input does: no input uses up so many turns.
-pub(crate) fn judge_many<R: Read, W: Write>(
-    input: &mut R,
-    out: &mut W,
-    is_repeated: bool,
-) -> io::Result<()> {
-    for _ in 0..u64::MAX {
-        if !judge_next(input, out, is_repeated)? {
-            break;
-        }
-    }
-    Ok(())
+// The next triple, checked as often as stands before it; answers whether there was one.
+pub(crate) fn judge_repeated<R: Read, W: Write>(input: &mut R, out: &mut W) -> io::Result<bool> {
+    let Some(times) = size(input)? else {
+        return Ok(false);
+    };
+    judge_next(input, out, times)
 }

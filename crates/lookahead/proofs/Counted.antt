@@ -10,13 +10,15 @@ use native.Mathlib.Nat.{mul-le-mul_left}
 use lib.ListN.{get_or, get_or-replicate}
 use lib.Bits.{bit_or}
 use Rattle.bits.specs.Sets.{Has, Meets}
+use Rattle.std.specs.Prelude.{Ok, Err}
 use Rattle.bits.proofs.Laws.{has-none, or-either, or_cases, same-members}
 use Rattle.task.specs.Task.{Task, Sized, goals}
 use Rattle.lookahead.specs.declared.reasons.Rows.{Rows}
-use Rattle.lookahead.specs.Outlook.{SameUse, UseEnd, HasTarget, Offers, SlotsOf, member_of, no_wants, Wanting, Most, fairly, vainly}
+use Rattle.lookahead.specs.Outlook.{SameUse, UseEnd, HasTarget, Offers, SlotsOf, member_of, Wanting, Most}
 use Rattle.lookahead.specs.Seen.{CountBelow, counted, passed, NoRowFor, WantsRow, ServedBy, WantedSlot, Seen, alone, together, fair}
 use Rattle.lookahead.specs.declared.Wants.{Wants}
 use Rattle.lookahead.proofs.Counting.{count-once, count_none, count-to}
+use Rattle.lookahead.proofs.Looking.{no_wants}
 
 pub record WantsCounted (p : Task) (at : ℕ) (b : List ℕ) (rows : Rows) (w : Wants) (i : ℕ) : Type 0 where
   pub hopeful : (j : ℕ) → j < i → NoRowFor p at b rows j → ⊥
@@ -121,7 +123,7 @@ module _ (p : Task) (z : Sized p) (at : ℕ) (b : List ℕ) (rows : Rows) (taken
   serve : (x : ℕ) → x < 64 → CountBelow (ServedBy p at b rows x) (goals p) (get_or w.served x 0)
   serve x l = count-to _ i (goals p) (get_or w.served x 0) (λ j m s. past j m s.wants.same) (λ j m s. gone j m s.wants.same) (q.served x l)
 
-  pub seen-together : (m : ℕ) → Most w.served m → rows.left * m < w.many → Seen p at b rows (vainly w.slots true)
+  pub seen-together : (m : ℕ) → Most w.served m → rows.left * m < w.many → Seen p at b rows (Err record { slots = w.slots; short = true })
   seen-together m y l =
       together taken w.slots none-hopeless
       record {
@@ -131,11 +133,11 @@ module _ (p : Task) (z : Sized p) (at : ℕ) (b : List ℕ) (rows : Rows) (taken
       }
       (λ x. (λ h. ((q.slots x).0 h).0, λ s. (q.slots x).1 (s, omega (arith, ((u.exactly s.i).1 s.wants.same).1))))
 
-  pub seen-fair : (m : ℕ) → Most w.served m → (rows.left * m < w.many → ⊥) → Seen p at b rows fairly
+  pub seen-fair : (m : ℕ) → Most w.served m → (rows.left * m < w.many → ⊥) → Seen p at b rows (Ok tt)
   seen-fair m y l =
       fair taken none-hopeless
       (λ t. let x = y.one in l (omega (arith, count-once _ (goals p) t.many w.many t.want want, t.each x.0 m x.1 (rw (sym x.2) (serve x.0 x.1)))))
 
-pub seen-alone : (p : Task) (at : ℕ) (b : List ℕ) (rows : Rows) (taken : rows.may ≡ 0 → ⊥) (w : Wants) (i : ℕ) → WantsCounted p at b rows w i → NoRowFor p at b rows i → (slots : ℕ) → SlotsOf p i 0 slots → Seen p at b rows (vainly slots false)
+pub seen-alone : (p : Task) (at : ℕ) (b : List ℕ) (rows : Rows) (taken : rows.may ≡ 0 → ⊥) (w : Wants) (i : ℕ) → WantsCounted p at b rows w i → NoRowFor p at b rows i → (slots : ℕ) → SlotsOf p i 0 slots → Seen p at b rows (Err record { slots = slots; short = false })
 seen-alone p at b rows taken w i q s slots o =
     alone taken i slots s q.hopeful (λ x. (λ h. ⊎_elim (λ n. absurd (has-none x n)) (λ y. y) ((o.exactly x).0 h), λ y. (o.exactly x).1 (inr y)))

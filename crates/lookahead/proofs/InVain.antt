@@ -1,9 +1,9 @@
 -- Why a search is seen to be in vain: a source subgoal of the same use that no row has a target for, or too many that want a row not yet in use.
-use mathlib.Core.Bool.{Bool, true, false, false≢true}
+use mathlib.Core.Bool.{true, false}
 use mathlib.Core.Path.{◌≡◌, refl, sym, subst, ◌∙◌, fun_ext}
-use mathlib.Core.Logic.{◌⊎◌, inl, inr, ⊎_elim}
+use mathlib.Core.Logic.{◌⊎◌, inl, inr}
 use mathlib.Core.List.Memᴰ
-use mathlib.Core.List.{List, [], ◌∷◌}
+use mathlib.Core.List.{List, ◌∷◌}
 use Prim.Native.Nat.{ℕ, zero, suc, ◌+◌, ◌-◌, ◌*◌, ◌<◌, ◌≤◌}
 use native.Mathlib.Omega.{arith}
 use native.Mathlib.Nat.{mul-le-mul_right}
@@ -13,19 +13,18 @@ use lib.Bits.{bit_or}
 use Rattle.spec.specs.Words.{◌∈◌}
 use Rattle.bits.specs.Sets.{Has, Meets}
 use Rattle.bits.proofs.Laws.{has-none, or-either}
-use Rattle.task.specs.Task.{Task, posed, Sized, goals, targets, source_term, width_of, last_of, row_of, value_of, Agrees, Completes, done, put}
+use Rattle.task.specs.Task.{Task, Sized, goals, targets, source_term, width_of, last_of, row_of, value_of, Agrees, Completes, done, put}
 use Rattle.task.specs.Mapped.{InRows}
 use Rattle.task.specs.Terms.{stood}
 use Rattle.task.proofs.Slots.{value-code, stood-code, stood-value}
 use Rattle.lookahead.specs.Taking.{Affords, Open}
 use Rattle.lookahead.specs.Failure.{AgreesOn, Failed}
-use Rattle.lookahead.specs.Outlook.{UseEnd, SuitsTarget, Readable, Offers, SlotsOf, member_of, Steady, Wanting, Most, no_wants, fairly, vainly}
-use Rattle.lookahead.specs.Seen.{Seen, LookSays}
+use Rattle.lookahead.specs.Outlook.{UseEnd, SuitsTarget, Offers, SlotsOf, member_of, Steady, Wanting, Most}
 use Rattle.lookahead.specs.declared.reasons.Rows.{Rows}
 use Rattle.lookahead.specs.declared.Wants.{Wants}
 use Rattle.lookahead.proofs.Taken.{affords-rows}
 use Rattle.lookahead.proofs.Total.{total, total-more, total-most}
-use Rattle.lookahead.proofs.Looking.{member-small}
+use Rattle.lookahead.proofs.Looking.{member-small, no_wants}
 
 -- where the source subgoal i lands: a target that it agrees with
 record Landing (p : Task) (v : ℕ → ℕ) (l : List ℕ) (i : ℕ) : Type 0 where
@@ -52,23 +51,6 @@ suits p b i k slots v on has g = record { relation = g.relation; terms = λ a h 
       | yes x ↦ stood-value b v (source_term p i a) (on (source_term p i a) (has a h x)) n
       | no x ↦ let y : 64 ≤ source_term p i a = omega arith in value-code v (source_term p i a) y ∙ sym (stood-code b (source_term p i a) y)
     ]
-
--- where a use ends says nothing of what a subgoal may become
-pub offers-whole : (p : Task) (b : List ℕ) (used allowed i rows : ℕ) → Offers (posed p.source p.widths [] p.target p.own) b used allowed i rows → Offers p b used allowed i rows
-offers-whole p b used allowed i rows f =
-    record {
-      only = λ x h. ((f.only x h).0, let t = (f.only x h).1 in record { k = t.k; within = t.within; row = t.row; fits = record { relation = t.fits.relation; terms = t.fits.terms } });
-      each = λ n k h m s. f.each n k h m (record { relation = s.relation; terms = s.terms });
-    }
-
-pub slots-whole : (p : Task) (i set slots : ℕ) → SlotsOf (posed p.source p.widths [] [] []) i set slots → SlotsOf p i set slots
-slots-whole p i set slots s =
-    record {
-      exactly = λ x. (
-        λ h. ⊎_elim (λ o. inl o) (λ o. inr (record { a = o.a; counts = o.counts; is = o.is; slot = o.slot })) ((s.exactly x).0 h),
-        λ h. (s.exactly x).1 (⊎_elim (λ o. inl o) (λ o. inr (record { a = o.a; counts = o.counts; is = o.is; slot = o.slot })) h),
-      );
-    }
 
 -- so many, of those before i, want rows that are not in use: whatever rows are taken serve them
 pub record Wanted (p : Task) (at : ℕ) (b : List ℕ) (rows : Rows) (w : Wants) (i : ℕ) : Type 0 where
@@ -98,22 +80,9 @@ module _ (p : Task) (at : ℕ) (b : List ℕ) (rows : Rows) where
   pub wanted-next : (w : Wants) (i : ℕ) → Wanted p at b rows w i → Wanted p at b rows w (i + 1)
   wanted-next w i q = record { few = omega (arith, q.few); small = q.small; long = q.long; below = q.below; taken = q.taken }
 
-  pub fair-said : Seen p at b rows fairly → LookSays p at b rows fairly
-  fair-said s = record { seen = s; vain = λ e. absurd (false≢true e) }
-
-  pub vain-said : (slots : ℕ) (short : Bool) → Seen p at b rows (vainly slots short) → Failed p at b rows record { slots = slots; short = short } → LookSays p at b rows (vainly slots short)
-  vain-said slots short s f = record { seen = s; vain = λ e. f }
-
 module _ (p : Task) (z : Sized p) (at end : ℕ) (u : UseEnd p.lasts at end) where
-  there : (i : ℕ) → at ≤ i → i < end → i < goals p
+  pub there : (i : ℕ) → at ≤ i → i < end → i < goals p
   there i g h = omega (arith, ((u.exactly i).0 (g, h)).there, z.lasts)
-
-  -- what may be read of a source subgoal of the use
-  pub readable : (i : ℕ) → at ≤ i → i < end → Readable (posed p.source p.widths [] p.target p.own) i
-  readable i g h = record { there = there i g h; narrow = z.widths i; source = omega (arith, z.source, there i g h); target = z.target; many = z.many; rows = z.rows }
-
-  pub readable-alone : (i : ℕ) → at ≤ i → i < end → Readable (posed p.source p.widths [] [] []) i
-  readable-alone i g h = record { there = there i g h; narrow = z.widths i; source = omega (arith, z.source, there i g h); target = refl; many = omega arith; rows = λ k. omega arith }
 
 module _ (p : Task) (z : Sized p) (at end : ℕ) (u : UseEnd p.lasts at end) (b : List ℕ) (rows : Rows) where
   -- the target that a completion sends it to

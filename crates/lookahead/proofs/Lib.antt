@@ -1,7 +1,6 @@
 pub mod Counted
 pub mod Counting
 pub mod InVain
-pub mod Judging
 pub mod Looking
 pub mod Taken
 pub mod Total

@@ -1,22 +1,21 @@
 -- What is seen step by step: where a use ends, which rows have a target for a subgoal, which slots it has, how many each row serves.
-use mathlib.Core.Bool.{Bool, true, false, not, true≢false, false≢true}
+use mathlib.Core.Bool.{true, false, false≢true}
 use mathlib.Core.Path.{◌≡◌, refl, ap, sym, subst, ◌∙◌}
-use mathlib.Core.Logic.{◌⊎◌, ◌↔◌, inl, inr, ⊎_elim}
+use mathlib.Core.Logic.{◌⊎◌, inl, inr, ⊎_elim}
 use mathlib.Core.List.{List}
-use Prim.Native.Nat.{ℕ, zero, suc, ◌+◌, ◌*◌, ◌<◌, ◌≤◌, max}
+use mir.Val.{bool_byte}
+use Prim.Native.Nat.{ℕ, zero, suc, ◌+◌, ◌/◌, ◌%◌, ◌^◌, ◌<◌, ◌≤◌}
 use native.Mathlib.Omega.{arith}
-use native.Mathlib.Nat.{mul-le-mul_right}
 use native.Mathlib.Decide.{ℕ_discrete, dec_lt}
-use lib.ListN.{length, get_or, set, length-set}
+use lib.ListN.{length, get_or, set, replicate, length-set}
 use lib.Seq.{get_or-set_same, get_or-set_other}
 use lib.Dec.{eqb}
-use borrow.Author.Tests.{eq-eqb, eqb-true, not-false}
 use Rattle.bits.specs.Sets.{Has, has, with}
-use Rattle.bits.proofs.Laws.{has-true, true-has, has-none, with-new, with-old, with_cases}
+use Rattle.bits.proofs.Laws.{has-true, has-none, with-new, with-old, with_cases, exactly-yes, exactly-no}
 use Rattle.task.specs.Task.{Task, targets, source_relation, target_relation, source_term, target_term, width_of, row_of}
-use Rattle.task.specs.Terms.{stood, noting}
+use Rattle.task.specs.Terms.{noting}
 use Rattle.task.proofs.Slots.{noting-new, noting-old, noting-cases}
-use Rattle.lookahead.specs.Outlook.{UseEnd, MayBecome, Clashes, SuitsTarget, HasTarget, Offered, Offers, SlotsOf, member_of, Wanting, Most}
+use Rattle.lookahead.specs.Outlook.{UseEnd, MayBecome, SuitsTarget, HasTarget, Offered, Offers, SlotsOf, member_of, Wanting}
 use Rattle.lookahead.specs.declared.Wants.{Wants}
 
 -- no use ends from at up to i
@@ -43,13 +42,6 @@ module _ (lasts : List ℕ) (at : ℕ) where
   pub going-whole : (i : ℕ) → length lasts ≤ i → UseGoesOn lasts at i → UseEnd lasts at (length lasts)
   going-whole i h g = record { exactly = λ j. (λ r. record { from = r.0; there = r.1; one = λ k l m. g.on k l (omega (arith, r.1)) }, λ u. (u.from, u.there)) }
 
--- a bound term, held against a code
-pub clash-known : (b : List ℕ) (x y have : ℕ) → have ≡ stood b x → (have ≡ 0 → ⊥) → (r : Bool) → r ≡ eqb have y → Clashes b x y (not r)
-clash-known b x y have e n r q = record { exactly = (λ f g. sym e ∙ eqb-true have y (sym q ∙ not-false r f), λ f. ap not (q ∙ eq-eqb have y (e ∙ f (λ z. n (e ∙ z))))) }
-
-pub clash-unbound : (b : List ℕ) (x y have : ℕ) → have ≡ stood b x → have ≡ 0 → Clashes b x y false
-clash-unbound b x y have e z = record { exactly = (λ f g. absurd (g (sym e ∙ z)), λ f. refl) }
-
 -- the first n terms of the source subgoal i may become those of the target k
 pub record Agreeable (p : Task) (b : List ℕ) (i k n : ℕ) : Type 0 where
   pub terms : (a : ℕ) → a < n → MayBecome b (source_term p i a) (target_term p k a)
@@ -58,24 +50,15 @@ module _ (p : Task) (b : List ℕ) (i k : ℕ) where
   pub agreeable-start : Agreeable p b i k 0
   agreeable-start = record { terms = λ a h. absurd (omega arith) }
 
-  pub agreeable-more : (n : ℕ) → Agreeable p b i k n → Clashes b (source_term p i n) (target_term p k n) false → Agreeable p b i k (n + 1)
-  agreeable-more n g c = record { terms = λ a h. elim (ℕ_discrete a n) [ yes e ↦ rw e (c.exactly.0 refl) | no e ↦ g.terms a (omega arith) ] }
+  pub agreeable-more : (n : ℕ) → Agreeable p b i k n → MayBecome b (source_term p i n) (target_term p k n) → Agreeable p b i k (n + 1)
+  agreeable-more n g m = record { terms = λ a h. elim (ℕ_discrete a n) [ yes e ↦ rw e m | no e ↦ g.terms a (omega arith) ] }
 
 module _ (p : Task) (b : List ℕ) (allowed i k : ℕ) where
-  pub offered-shut : has allowed (row_of p k) ≡ false → Offered p b allowed i k false
-  offered-shut e = record { exactly = (λ f. absurd (false≢true f), λ c. absurd (true≢false (sym (true-has allowed (row_of p k) c.0) ∙ e))) }
-
-  pub offered-relation : (target_relation p k ≡ source_relation p i → ⊥) → Offered p b allowed i k false
-  offered-relation f = record { exactly = (λ e. absurd (false≢true e), λ c. absurd (f c.1.relation)) }
-
-  pub offered-clash : (a : ℕ) → a < width_of p i → Clashes b (source_term p i a) (target_term p k a) true → Offered p b allowed i k false
-  offered-clash a h c = record { exactly = (λ e. absurd (false≢true e), λ s. absurd (true≢false (c.exactly.1 (s.1.terms a h)))) }
+  pub offered-not : (Has allowed (row_of p k) → SuitsTarget p b i k → ⊥) → Offered p b allowed i k false
+  offered-not f = record { exactly = exactly-no (λ c. f c.0 c.1) }
 
   pub offered-all : has allowed (row_of p k) ≡ true → target_relation p k ≡ source_relation p i → (n : ℕ) → width_of p i ≤ n → Agreeable p b i k n → Offered p b allowed i k true
-  offered-all e r n h g = record { exactly = (λ f. (has-true allowed (row_of p k) e, record { relation = r; terms = λ a j. g.terms a (omega arith) }), λ c. refl) }
-
-pub offered-as : (p : Task) (b : List ℕ) (allowed i k : ℕ) (r s : Bool) → r ≡ s → Offered p b allowed i k r → Offered p b allowed i k s
-offered-as p b allowed i k r s = subst (Offered p b allowed i k)
+  offered-all e r n h g = record { exactly = exactly-yes (has-true allowed (row_of p k) e, record { relation = r; terms = λ a j. g.terms a (omega arith) }) }
 
 -- the rows, of those before k, with a target for the source subgoal i
 pub record Offering (p : Task) (b : List ℕ) (allowed i k rows : ℕ) : Type 0 where
@@ -154,6 +137,16 @@ pub member-small : (rows x : ℕ) → member_of rows x ≤ 1
 unfolding member_of
 member-small rows x = omega arith
 
+-- a test as a number
+pub member-held : (rows x : ℕ) → bool_byte (has rows x) ≡ member_of rows x
+unfolding member_of has
+member-held rows x = go (rows / 2 ^ x % 2) (omega arith)
+  where
+    go : (n : ℕ) → n < 2 → bool_byte (eqb n 1) ≡ n
+    go zero h = refl
+    go (suc zero) h = refl
+    go (suc (suc n)) h = absurd (omega arith)
+
 module _ (old : List ℕ) (rows : ℕ) where
   pub serving-start : length old ≡ 64 → Serving old rows 0 old
   serving-start e = record { long = e; past = λ y h. absurd (omega arith); rest = λ y h. refl }
@@ -169,39 +162,8 @@ module _ (old : List ℕ) (rows : ℕ) where
         rest = λ y l. get_or-set_other new x y (get_or new x 0 + member_of rows x) 0 (λ e. omega arith) ∙ s.rest y (omega arith);
       }
 
-pub serving-end : (w : Wants) (rows slots x : ℕ) (new : List ℕ) (more : Wants) → 64 ≤ x → Serving w.served rows x new → more.many ≡ w.many + 1 → more.served ≡ new → more.slots ≡ slots → Wanting w rows slots more
-serving-end w rows slots x new more h s e f g = record { many = omega arith; long = rw f s.long; served = λ y l. rw f (s.past y (omega arith)); slots = g }
+pub serving-end : (w : Wants) (rows slots x : ℕ) (new : List ℕ) → 64 ≤ x → Serving w.served rows x new → Wanting w rows slots record { many = w.many + 1; served = new; slots = slots }
+serving-end w rows slots x new h s = record { many = omega arith; long = s.long; served = λ y l. s.past y (omega arith); slots = refl }
 
--- m is the largest of the first x, or 0
-pub record Mostly (l : List ℕ) (x m : ℕ) : Type 0 where
-  pub each : (y : ℕ) → y < x → get_or l y 0 ≤ m
-  pub one : (m ≡ 0) ⊎ ((y : ℕ) × (y < x) × (get_or l y 0 ≡ m))
-
-module _ (l : List ℕ) where
-  pub mostly-start : Mostly l 0 0
-  mostly-start = record { each = λ y h. absurd (omega arith); one = inl refl }
-
-  pub mostly-more : (x m n : ℕ) → Mostly l x m → n ≡ max m (get_or l x 0) → Mostly l (x + 1) n
-  mostly-more x m n s e =
-      record {
-        each = λ y h. elim (ℕ_discrete y x) [ yes q ↦ rw q (omega arith) | no q ↦ omega (arith, s.each y (omega arith)) ];
-        one = elim (dec_lt m (get_or l x 0)) [
-          | yes h ↦ inr (x, omega arith, omega arith)
-          | no h ↦ let q : n ≡ m = omega arith in ⊎_elim (λ z. inl (q ∙ z)) (λ w. inr (w.0, omega (arith, w.1), w.2 ∙ sym q)) s.one
-        ];
-      }
-
-  pub mostly-end : (x m : ℕ) → x ≡ 64 → Mostly l x m → Most l m
-  mostly-end x m h s =
-      record {
-        each = λ y k. s.each y (omega arith);
-        one = ⊎_elim (λ z. (0, omega arith, omega (arith, z, s.each 0 (omega arith)))) (λ w. (w.0, omega (arith, w.1), w.2)) s.one;
-      }
-
-pub product_small : (left each : ℕ) → left ≤ 96 → each ≤ 96 → left * each ≤ 9216
-product_small left each h k = omega (arith, mul-le-mul_right each h)
-
--- 96 rows serve at most 96 as well as more rows do
-pub capped : (left each many : ℕ) → 96 ≤ left → many ≤ 96 → (96 * each < many) ↔ (left * each < many)
-capped left zero many h k = (λ l. omega arith, λ l. omega arith)
-capped left (suc each) many h k = (λ l. absurd (omega arith), λ l. absurd (omega (arith, mul-le-mul_right (suc each) h)))
+abbrev pub no_wants : Wants
+no_wants = record { many = 0; served = replicate 64 0; slots = 0 }

@@ -26,12 +26,15 @@ left-paid used left row f = go (has used row) refl
     go true e = absurd (f (has-true used row e))
     go false e = refl
 
+pub has-not : (set x : ℕ) → has set x ≡ false → Has set x → ⊥
+has-not set x e h = true≢false (sym (true-has set x h) ∙ e)
+
 dec_has : (set x : ℕ) → Dec (Has set x)
 dec_has set x = go (has set x) refl
   where
     go : (b : Bool) → has set x ≡ b → Dec (Has set x)
     go true e = yes (has-true set x e)
-    go false e = no (λ h. true≢false (sym (true-has set x h) ∙ e))
+    go false e = no (has-not set x e)
 
 module _ (p : Task) (used may left k : ℕ) (l : List ℕ) where
   -- the rows that the first target leaves to the others

@@ -1,14 +1,11 @@
 -- What is seen before a source subgoal is placed: that it would be in vain.
 -- Each source subgoal of the same use wants a row with a target that it may still become.
-use Rattle.std.specs.Prelude.{Bool, true, false, ◌≡◌, ◌⊎◌, ◌↔◌, List, ℕ, suc, ◌+◌, ◌*◌, ◌/◌, ◌%◌, ◌^◌, ◌<◌, ◌≤◌, length, get_or, replicate}
-use Rattle.spec.specs.BookLayout.{most_arity}
+use Rattle.std.specs.Prelude.{Bool, true, ◌≡◌, ◌⊎◌, ◌↔◌, List, ℕ, suc, ◌+◌, ◌/◌, ◌%◌, ◌^◌, ◌<◌, ◌≤◌, length, get_or}
 use Rattle.spec.specs.Table.{most_rows}
-use Rattle.codes.specs.Code.{subgoal_size, uses_goals}
+use Rattle.codes.specs.Code.{uses_goals}
 use Rattle.bits.specs.Sets.{Has}
-use Rattle.task.specs.Task.{Task, goals, targets, source_relation, source_term, target_relation, target_term, width_of, row_of}
+use Rattle.task.specs.Task.{Task, targets, source_relation, source_term, target_relation, target_term, width_of, row_of}
 use Rattle.task.specs.Terms.{stood}
-use Rattle.lookahead.specs.Steps.{no_reasons}
-use Rattle.lookahead.specs.declared.Outlook.{Outlook}
 use Rattle.lookahead.specs.declared.Wants.{Wants}
 
 -- the source subgoal i is of the same use as the source subgoal at, and none before it: no use ends between them
@@ -25,22 +22,10 @@ pub record UseEnd (lasts : List ℕ) (at end : ℕ) : Type 0 where
 abbrev pub MayBecome : List ℕ → ℕ → ℕ → Type 0
 MayBecome b x y = (stood b x ≡ 0 → ⊥) → stood b x ≡ y
 
-pub record Clashes (b : List ℕ) (x y : ℕ) (answer : Bool) : Type 0 where
-  pub exactly : (answer ≡ false) ↔ MayBecome b x y
-
 -- the source subgoal i may still become the target k
 pub record SuitsTarget (p : Task) (b : List ℕ) (i k : ℕ) : Type 0 where
   pub relation : target_relation p k ≡ source_relation p i
   pub terms : (a : ℕ) → a < width_of p i → MayBecome b (source_term p i a) (target_term p k a)
-
--- What is to hold where the source subgoal i is compared: it is there, and so are the codes of all targets.
-pub record Readable (p : Task) (i : ℕ) : Type 0 where
-  pub there : i < goals p
-  pub narrow : width_of p i ≤ most_arity
-  pub source : subgoal_size * i + most_arity < length p.source
-  pub target : length p.target ≡ subgoal_size * targets p
-  pub many : targets p ≤ 512
-  pub rows : (k : ℕ) → row_of p k < most_rows
 
 pub record Offered (p : Task) (b : List ℕ) (allowed i k : ℕ) (answer : Bool) : Type 0 where
   pub exactly : (answer ≡ true) ↔ (Has allowed (row_of p k) × SuitsTarget p b i k)
@@ -70,9 +55,6 @@ pub record SlotsOf (p : Task) (i set slots : ℕ) : Type 0 where
 unfoldable pub member_of : ℕ → ℕ → ℕ
 member_of set x = set / 2 ^ x % 2
 
-abbrev pub no_wants : Wants
-no_wants = record { many = 0; served = replicate most_rows 0; slots = 0 }
-
 -- there are few, and none serves more
 pub record Steady (w : Wants) : Type 0 where
   pub few : w.many < uses_goals
@@ -89,9 +71,3 @@ pub record Wanting (w : Wants) (rows set : ℕ) (more : Wants) : Type 0 where
 pub record Most (l : List ℕ) (m : ℕ) : Type 0 where
   pub each : (x : ℕ) → x < most_rows → get_or l x 0 ≤ m
   pub one : (x : ℕ) × (x < most_rows) × (get_or l x 0 ≡ m)
-
-abbrev pub fairly : Outlook
-fairly = record { vain = false; why = no_reasons }
-
-abbrev pub vainly : ℕ → Bool → Outlook
-vainly slots short = record { vain = true; why = record { slots = slots; short = short } }

@@ -1,12 +1,12 @@
 -- What is seen of a source subgoal and the others of its use, before it is placed.
-use Rattle.std.specs.Prelude.{true, false, ◌≡◌, ◌⊎◌, ◌↔◌, List, ℕ, suc, ◌*◌, ◌<◌}
+use Rattle.std.specs.Prelude.{true, false, ◌≡◌, ◌⊎◌, ◌↔◌, List, ℕ, suc, ◌*◌, ◌<◌, Result, Ok, Err, IfErr, ⊤}
 use Rattle.spec.specs.Table.{most_rows}
 use Rattle.bits.specs.Sets.{Has}
 use Rattle.task.specs.Task.{Task, goals}
+use Rattle.lookahead.specs.declared.reasons.Reasons.{Reasons}
 use Rattle.lookahead.specs.declared.reasons.Rows.{Rows}
 use Rattle.lookahead.specs.Failure.{Failed}
-use Rattle.lookahead.specs.Outlook.{SameUse, HasTarget, SlotOf, fairly, vainly}
-use Rattle.lookahead.specs.declared.Outlook.{Outlook}
+use Rattle.lookahead.specs.Outlook.{SameUse, HasTarget, SlotOf}
 
 -- n of the numbers below m are such
 pub data CountBelow (P : ℕ → Type 0) : ℕ → ℕ → Type 0 where
@@ -42,16 +42,17 @@ pub record WantedSlot (p : Task) (at : ℕ) (b : List ℕ) (rows : Rows) (x : �
   pub wants : WantsRow p at b rows i
   pub slot : SlotOf p i x
 
-pub data Seen (p : Task) (at : ℕ) (b : List ℕ) (rows : Rows) : Outlook → Type 0 where
+-- Err: it is seen to be in vain, for these reasons
+pub data Seen (p : Task) (at : ℕ) (b : List ℕ) (rows : Rows) : Result ⊤ Reasons → Type 0 where
   -- where no row may be taken nothing is looked at
-  closed : rows.may ≡ 0 → Seen p at b rows fairly
+  closed : rows.may ≡ 0 → Seen p at b rows (Ok tt)
   -- the first without hope; its slots are to blame
-  alone : (rows.may ≡ 0 → ⊥) → (i slots : ℕ) → NoRowFor p at b rows i → ((j : ℕ) → j < i → NoRowFor p at b rows j → ⊥) → ((x : ℕ) → Has slots x ↔ SlotOf p i x) → Seen p at b rows (vainly slots false)
+  alone : (rows.may ≡ 0 → ⊥) → (i slots : ℕ) → NoRowFor p at b rows i → ((j : ℕ) → j < i → NoRowFor p at b rows j → ⊥) → ((x : ℕ) → Has slots x ↔ SlotOf p i x) → Seen p at b rows (Err record { slots = slots; short = false })
   -- none is without hope, but they are too many together; the slots of all that want a row are to blame
-  together : (rows.may ≡ 0 → ⊥) → (slots : ℕ) → ((i : ℕ) → NoRowFor p at b rows i → ⊥) → TooManyWant p at b rows → ((x : ℕ) → Has slots x ↔ WantedSlot p at b rows x) → Seen p at b rows (vainly slots true)
-  fair : (rows.may ≡ 0 → ⊥) → ((i : ℕ) → NoRowFor p at b rows i → ⊥) → (TooManyWant p at b rows → ⊥) → Seen p at b rows fairly
+  together : (rows.may ≡ 0 → ⊥) → (slots : ℕ) → ((i : ℕ) → NoRowFor p at b rows i → ⊥) → TooManyWant p at b rows → ((x : ℕ) → Has slots x ↔ WantedSlot p at b rows x) → Seen p at b rows (Err record { slots = slots; short = true })
+  fair : (rows.may ≡ 0 → ⊥) → ((i : ℕ) → NoRowFor p at b rows i → ⊥) → (TooManyWant p at b rows → ⊥) → Seen p at b rows (Ok tt)
 
-pub record LookSays (p : Task) (at : ℕ) (b : List ℕ) (rows : Rows) (r : Outlook) : Type 0 where
+pub record LookSays (p : Task) (at : ℕ) (b : List ℕ) (rows : Rows) (r : Result ⊤ Reasons) : Type 0 where
   pub seen : Seen p at b rows r
   -- what is seen to be in vain fails, for the reasons told
-  pub vain : r.vain ≡ true → Failed p at b rows r.why
+  pub vain : IfErr r (Failed p at b rows)

@@ -1,7 +1,7 @@
 // Rows that are entered, and the reasons of a failure.
 ghost use Rattle.std.specs.Prelude.{◌≡◌, ◌<◌};
 ghost use Rattle.spec.specs.Table.{most_rows};
-ghost use Rattle.lookahead.specs.Steps.{blaming, shorting, joining, seeing, rows_of, entry_of, Entering, Settled, no_reasons};
+ghost use Rattle.lookahead.specs.Steps.{blaming, shorting, joining, seeing, Entering, Settled};
 
 use task::terms::noted;
 
@@ -20,125 +20,103 @@ pub struct Rows {
     pub left: usize,
 }
 
-// Of a row: whether it is in use or may be taken, whether the rows left suffice for that, whether it was in use, and the rows once it is entered.
+// Of a row that is entered: whether it was in use, and the rows then.
 #[derive(Clone, Copy)]
 pub struct Entered {
-    pub allowed: bool,
-    pub afforded: bool,
     pub free: bool,
     pub rows: Rows,
 }
 
-pub fn rows_of(used: u64, may: u64, left: usize) -> Rows
-    ensures { result ≡ rows_of used may left }
-{
-    Rows { used, may, left }
+// Why a row is not entered: it may be taken, but none are left; or it may not be taken.
+#[derive(Clone, Copy)]
+pub enum Barred {
+    Short,
+    Closed,
 }
 
-pub fn entry(allowed: bool, afforded: bool, free: bool, rows: Rows) -> Entered
-    ensures { result ≡ entry_of allowed afforded free rows }
-{
-    Entered {
-        allowed,
-        afforded,
-        free,
-        rows,
-    }
-}
-
-// A row in use is free; another costs one of those left, and is then in use.
-pub fn enters(rows: Rows, row: u8) -> Entered
-    requires { row < most_rows }
-    ensures { Entering rows row result }
-{
-    let used = bits::add(rows.used, row as u32);
-    if bits::holds(rows.used, row as u32) {
-        return entry(true, true, true, rows_of(used, rows.may, rows.left));
-    }
-    let allowed = bits::holds(rows.may, row as u32);
-    if rows.left == 0 {
-        return entry(allowed, false, false, rows_of(used, rows.may, 0));
-    }
-    entry(
-        allowed,
-        allowed,
-        false,
-        rows_of(used, rows.may, rows.left - 1),
-    )
-}
-
-pub fn no_reasons() -> Reasons
-    ensures { result ≡ no_reasons }
-{
-    Reasons {
-        slots: 0,
-        short: false,
+impl Rows {
+    // A row in use is free; another costs one of those left, and is then in use.
+    pub fn enters(self, row: u8) -> Result<Entered, Barred>
+        requires { row < most_rows }
+        ensures { Entering self row result }
+    {
+        let x = row as u32;
+        let used = bits::add(self.used, x);
+        if bits::holds(self.used, x) {
+            return Ok(Entered {
+                free: true,
+                rows: Rows { used, ..self },
+            });
+        }
+        if !bits::holds(self.may, x) {
+            return Err(Barred::Closed);
+        }
+        if self.left == 0 {
+            return Err(Barred::Short);
+        }
+        Ok(Entered {
+            free: false,
+            rows: Rows {
+                used,
+                left: self.left - 1,
+                ..self
+            },
+        })
     }
 }
 
-// One slot more to blame, if the term is one.
-pub fn blamed(why: Reasons, x: u64) -> Reasons
-    ensures { result ≡ blaming why x }
-{
-    Reasons {
-        slots: noted(why.slots, x),
-        short: why.short,
+impl Reasons {
+    // One slot more to blame, if the term is one.
+    pub fn blamed(self, x: u64) -> Reasons
+        ensures { result ≡ blaming self x }
+    {
+        Reasons {
+            slots: noted(self.slots, x),
+            ..self
+        }
     }
-}
 
-// A row was refused. If it is an allowed one, none are left: with more, the target might do.
-pub fn shorted(why: Reasons, allowed: bool) -> Reasons
-    ensures { result ≡ shorting why allowed }
-{
-    if allowed {
-        return Reasons {
-            slots: why.slots,
-            short: true,
-        };
+    // A row was refused. If it is an allowed one, none are left: with more, the target might do.
+    pub fn shorted(self, barred: Barred) -> Reasons
+        ensures { result ≡ shorting self barred }
+    {
+        match barred {
+            Barred::Short => Reasons {
+                short: true,
+                ..self
+            },
+            Barred::Closed => self,
+        }
     }
-    why
-}
 
-// The reasons of both.
-pub fn joined(why: Reasons, more: Reasons) -> Reasons
-    ensures { result ≡ joining why more }
-{
-    let slots = bits::join(why.slots, more.slots);
-    if why.short {
-        return Reasons { slots, short: true };
+    // The reasons of both.
+    pub fn joined(self, more: Reasons) -> Reasons
+        ensures { result ≡ joining self more }
+    {
+        Reasons {
+            slots: bits::join(self.slots, more.slots),
+            short: self.short || more.short,
+        }
     }
-    Reasons {
-        slots,
-        short: more.short,
-    }
-}
 
-// Reasons among a later use's own slots are none before it.
-pub fn seen(why: Reasons, last: u8) -> Reasons
-    ensures { result ≡ seeing why last }
-{
-    if last == 0 {
-        return why;
+    // Reasons among a later use's own slots are none before it.
+    pub fn seen(self, last: u8) -> Reasons
+        ensures { result ≡ seeing self last }
+    {
+        if last == 0 {
+            return self;
+        }
+        Reasons {
+            slots: bits::low(self.slots),
+            ..self
+        }
     }
-    Reasons {
-        slots: bits::low(why.slots),
-        short: why.short,
-    }
-}
 
-// Whether no other target is to be tried: the first places are found, or each target fails for the same reasons.
-// Want of rows is such a reason only if the guess took none: another target leaves no more of them.
-pub fn settled(ok: bool, why: Reasons, new: u64, free: bool) -> bool
-    ensures { Settled ok why new free result }
-{
-    if ok {
-        return true;
+    // Whether no other target is to be tried, since each fails for the same reasons.
+    // Want of rows is such a reason only if the guess took none: another target leaves no more of them.
+    pub fn settled(self, new: u64, free: bool) -> bool
+        ensures { Settled self new free result }
+    {
+        !bits::meets(self.slots, new) && (free || !self.short)
     }
-    if bits::meets(why.slots, new) {
-        return false;
-    }
-    if free {
-        return true;
-    }
-    !why.short
 }

@@ -1,5 +1,5 @@
 -- The search's answers: found below, given up, or nothing left to place.
-use mathlib.Core.Bool.{Bool, true, false, true≢false, false≢true}
+use mathlib.Core.Bool.{Bool, true, false, true≢false}
 use mathlib.Core.Path.{◌≡◌, refl, ap, sym, ◌∙◌}
 use mathlib.Core.Logic.{◌⊎◌, inl, inr}
 use mathlib.Core.List.{List, [], ◌∷◌}
@@ -7,7 +7,8 @@ use Prim.Native.Nat.{ℕ, zero, suc, ◌+◌, ◌-◌, ◌<◌, ◌≤◌}
 use native.Mathlib.Omega.{arith}
 use native.Mathlib.Decide.{ℕ_discrete, dec_lt}
 use native.Mathlib.Numerals.{add-one}
-use lib.ListN.{get_or, set}
+use lib.ListN.{get_or, set, replicate}
+use Rattle.std.specs.Prelude.{Result}
 use Rattle.spec.specs.Order.{ListBefore, First}
 use Rattle.bits.specs.Sets.{Has, with}
 use Rattle.task.specs.Task.{Task, goals, targets, target_relation, source_relation, width_of, last_of, row_of, Completes, done}
@@ -16,17 +17,13 @@ use Rattle.task.proofs.Guess.{Guess}
 use Rattle.task.proofs.Onward.{step, after, onward}
 use Rattle.lookahead.specs.Taking.{Enters, left_after, Affords, Open}
 use Rattle.lookahead.specs.Failure.{AgreesOn, Failed}
-use Rattle.lookahead.specs.Steps.{Entering, Hopeless, Settled, entering, seeing}
-use Rattle.lookahead.specs.Seen.{LookSays}
+use Rattle.lookahead.specs.Steps.{RowEntered, Hopeless, entering, seeing}
 use Rattle.lookahead.specs.declared.reasons.Reasons.{Reasons}
 use Rattle.lookahead.specs.declared.reasons.Rows.{Rows}
 use Rattle.lookahead.specs.declared.reasons.Entered.{Entered}
-use Rattle.lookahead.specs.declared.Outlook.{Outlook}
 use Rattle.lookahead.proofs.Taken.{affords-free}
-use Rattle.placing.specs.FirstPlaces.{laid}
+use Rattle.placing.specs.FirstPlaces.{laid, FirstLaid}
 use Rattle.placing.specs.SearchAnswer.{Afforded, SearchSays}
-use Rattle.placing.specs.Steps.{carrying, found, failed}
-use Rattle.placing.specs.declared.Placed.{Placed}
 use Rattle.placing.proofs.Open.{open-with, open-tail, affords-open}
 use Rattle.placing.proofs.Laid.{laid_none, laid-put}
 use Rattle.placing.proofs.ReasonsCarried.{carry}
@@ -34,9 +31,9 @@ use Rattle.placing.proofs.Refuted.{Refuted}
 
 module _ (p : Task) (at : ℕ) (b : List ℕ) (rows : Rows) (more : at < goals p) where
   -- every target is passed over
-  pub answer-none : (why : Reasons) (m : ℕ) → targets p ≤ m → Refuted p at b rows why m → SearchSays p at b rows (failed why)
+  pub answer-none : (why : Reasons) (m : ℕ) → targets p ≤ m → Refuted p at b rows why m → Failed p at b rows why
   unfolding Refuted
-  answer-none why m h ref = record { found = λ e. absurd (false≢true e); none = λ e. record { never = never } }
+  answer-none why m h ref = record { never = never }
     where
       never : (v : ℕ → ℕ) (l : List ℕ) → AgreesOn b why.slots v → Completes p (goals p - at) at v l → Open p rows.used rows.may l → (why.short ≡ true → Affords p rows.used rows.may rows.left l) → ⊥
       never v l a q o d =
@@ -45,8 +42,8 @@ module _ (p : Task) (at : ℕ) (b : List ℕ) (rows : Rows) (more : at < goals p
 
   module _ (k : ℕ) (g h : List ℕ) (new : ℕ) (c : Guess p b at k (width_of p at) g new) (o : Opened (last_of p at) g h) where
     -- the jump: whatever the target, the rest fails for the same reasons
-    jump : (less : Reasons) → Failed p (suc at) h (entering rows (row_of p k)) less → (free : Bool) → (free ≡ true → Has rows.used (row_of p k)) → Hopeless (seeing less (last_of p at)) new free → Failed p at b rows (seeing less (last_of p at))
-    jump less f free u m = record { never = never }
+    pub answer-hopeless : (less : Reasons) → Failed p (suc at) h (entering rows (row_of p k)) less → (free : Bool) → (free ≡ true → Has rows.used (row_of p k)) → Hopeless (seeing less (last_of p at)) new free → Failed p at b rows (seeing less (last_of p at))
+    answer-hopeless less f free u m = record { never = never }
       where
         -- the rows suffice no more than they did here, where the guess took none
         suffice : (j : ℕ) (l : List ℕ) → (free ≡ true) ⊎ (less.short ≡ false) → (less.short ≡ true → Affords p rows.used rows.may rows.left (j ∷ l)) → less.short ≡ true → Affords p (with rows.used (row_of p k)) rows.may (left_after rows.used rows.left (row_of p k)) l
@@ -94,37 +91,23 @@ module _ (p : Task) (at : ℕ) (b : List ℕ) (rows : Rows) (more : at < goals p
             ]
           ])
 
-      pub first-here : First (Afforded p at b rows) (ListBefore ◌<◌) (k ∷ l)
+      first-here : First (Afforded p at b rows) (ListBefore ◌<◌) (k ∷ l)
       unfolding Later
       first-here = record { holds = here; least = least }
 
-    -- what settles the search: the places found, or the jump
-    module _ (below : Placed) (a : SearchSays p (suc at) h (entering rows (row_of p k)) below) (why : Reasons) (i : k < targets p) (rel : target_relation p k ≡ source_relation p at) (e : Enters rows.used rows.may rows.left (row_of p k)) (ref : Refuted p at b rows why k) where
-      got : below.ok ≡ true → (l : List ℕ) × (set below.ks at k ≡ laid at l) × First (Afforded p at b rows) (ListBefore ◌<◌) l
-      got y = let f = a.found y in (k ∷ f.0, ap (λ r. set r at k) f.1 ∙ laid-put at k f.0, first-here why i rel e ref f.0 f.2)
-
-      module _ (free : Bool) (u : free ≡ true → Has rows.used (row_of p k)) where
-        lost : below.ok ≡ false → (below.ok ≡ true) ⊎ Hopeless (seeing below.why (last_of p at)) new free → Failed p at b rows (seeing below.why (last_of p at))
-        lost n (inl y) = absurd (true≢false (sym y ∙ n))
-        lost n (inr y) = jump below.why (a.none n) free u y
-
-        pub answer-settled : (r : Placed) → r ≡ carrying below at k (last_of p at) → (s : Bool) → Settled r.ok r.why new free s → s ≡ true → SearchSays p at b rows r
-        answer-settled r q s c t = rw q (record { found = got; none = λ n. lost n ((rw q at c).exactly.0 t) })
+      pub answer-found : (ks : List ℕ) → ks ≡ laid (suc at) l → FirstLaid (Afforded p at b rows) at (set ks at k)
+      answer-found ks y = (k ∷ l, ap (λ r. set r at k) y ∙ laid-put at k l, first-here)
 
 -- the answer below, in the codes of this subgoal
-pub answer-below : (p : Task) (at : ℕ) (h : List ℕ) (rows : Rows) (k : ℕ) (e : Entered) → Entering rows (row_of p k) e → (r : Placed) → SearchSays p (at + 1) h e.rows r → SearchSays p (suc at) h (entering rows (row_of p k)) r
+pub answer-below : (p : Task) (at : ℕ) (h : List ℕ) (rows : Rows) (k : ℕ) (e : Entered) → RowEntered rows (row_of p k) e → (r : Result (List ℕ) Reasons) → SearchSays p (at + 1) h e.rows r → SearchSays p (suc at) h (entering rows (row_of p k)) r
 answer-below p at h rows k e n r a = rw (add-one at, n.after) at a
-
--- seen to be in vain
-pub answer-vain : (p : Task) (at : ℕ) (b : List ℕ) (rows : Rows) (o : Outlook) → LookSays p at b rows o → o.vain ≡ true → SearchSays p at b rows (failed o.why)
-answer-vain p at b rows o s v = record { found = λ e. absurd (false≢true e); none = λ e. s.vain v }
 
 -- nothing is left to place
 only_none : (p : Task) (at : ℕ) (v : ℕ → ℕ) (js : List ℕ) → Completes p zero at v js → [] ≡ js
 only_none p at v js done = refl
 
-pub answer-end : (p : Task) (at : ℕ) (b : List ℕ) (rows : Rows) → goals p ≤ at → at ≤ 96 → SearchSays p at b rows found
-answer-end p at b rows h k = record { found = λ e. ([], laid_none at k, first); none = λ e. absurd (true≢false e) }
+pub answer-end : (p : Task) (at : ℕ) (b : List ℕ) (rows : Rows) → goals p ≤ at → at ≤ 96 → FirstLaid (Afforded p at b rows) at (replicate 96 0)
+answer-end p at b rows h k = ([], laid_none at k, first)
   where
     over : goals p - at ≡ 0
     over = omega arith

@@ -1,5 +1,5 @@
 -- Why targets are passed over: no values that agree with the bindings on the reasons have a way on over them.
-use mathlib.Core.Bool.{true, false, ◌||◌, true≢false, or-true}
+use mathlib.Core.Bool.{true, ◌||◌, or-true}
 use mathlib.Core.Path.{◌≡◌, refl, ap, sym, ◌∙◌}
 use mathlib.Core.List.Memᴰ
 use mathlib.Core.List.{List, ◌∷◌}
@@ -15,10 +15,11 @@ use Rattle.task.proofs.Slots.{stood-value, noting-new, noting-old}
 use Rattle.task.proofs.Guess.{Guess, TermsAgree, guess-known}
 use Rattle.lookahead.specs.Taking.{Affords, Open}
 use Rattle.lookahead.specs.Failure.{AgreesOn, Failed}
-use Rattle.lookahead.specs.Steps.{blaming, shorting, joining, seeing, entering, Entering}
+use Rattle.lookahead.specs.Steps.{blaming, shorting, joining, seeing, entering, RowBarred}
 use Rattle.lookahead.specs.declared.reasons.Reasons.{Reasons}
 use Rattle.lookahead.specs.declared.reasons.Rows.{Rows}
-use Rattle.lookahead.specs.declared.reasons.Entered.{Entered}
+use Rattle.lookahead.specs.declared.reasons.Barred.{Barred}
+use Rattle.lookahead.specs.declared.reasons.Barred.TheVariants.{Short, Closed}
 use Rattle.placing.proofs.Open.{open-with, open-tail}
 use Rattle.placing.proofs.ReasonsCarried.{carry}
 
@@ -59,12 +60,10 @@ module _ (p : Task) (at : ℕ) (b : List ℕ) (rows : Rows) where
   pub refuted-relation : (why : Reasons) (k : ℕ) → (target_relation p k ≡ source_relation p at → ⊥) → Refuted p at b rows why k → Refuted p at b rows why (k + 1)
   refuted-relation why k f = refuted-more why why k (record { slots = λ x h. h; short = λ s. s }) (λ c. f c.agrees.relation)
 
-  module _ (k : ℕ) (e : Entered) (n : Entering rows (row_of p k) e) where
-    -- the row is neither in use nor to be taken, or no more rows are left
-    pub refuted-row : (why : Reasons) → e.afforded ≡ false → Refuted p at b rows why k → Refuted p at b rows (shorting why e.allowed) (k + 1)
-    refuted-row why f = refuted-more why (shorting why e.allowed) k
-        (record { slots = λ x h. h; short = λ s. ap (λ b. e.allowed || b) s ∙ or-true e.allowed })
-        (λ c. true≢false (sym (n.afforded.1 (c.affords (ap (λ b. b || why.short) (n.allowed.1 (c.allowed k (Memᴰ.head refl))))).0) ∙ f))
+  -- the row is neither in use nor to be taken, or no more rows are left
+  pub refuted-row : (why : Reasons) (k : ℕ) (e : Barred) → RowBarred rows (row_of p k) e → Refuted p at b rows why k → Refuted p at b rows (shorting why e) (k + 1)
+  refuted-row why k Short n = refuted-more why (shorting why Short) k (record { slots = λ x h. h; short = λ s. refl }) (λ c. n.barred (c.affords refl).0)
+  refuted-row why k Closed n = refuted-more why why k (record { slots = λ x h. h; short = λ s. s }) (λ c. let e : Closed ≡ Short = n.allowed.1 (c.allowed k (Memᴰ.head refl)) in absurd (cc))
 
   -- what a guess bound is forced, or known by the reasons
   module _ (k a : ℕ) (g : List ℕ) (new : ℕ) (c : Guess p b at k a g new) where

@@ -1,3 +1,2 @@
 pub mod FirstPlaces
 pub mod SearchAnswer
-pub mod Steps

@@ -4,8 +4,8 @@
 // of answer and witness, 0 and 0 on a refusal), and then all bytes of both areas as they are.
 ghost use Rattle.std.specs.Prelude.{◌≤◌};
 
-use crate::told::{Told, tell};
-use spec::{ANSWER_ROOM, WITNESS_ROOM};
+use rewriter::rewrite;
+use spec::{ANSWER_ROOM, Lengths, Reason, Refused, WITNESS_ROOM};
 use std::io;
 use std::io::Write;
 
@@ -18,14 +18,14 @@ fn pattern(area: &mut [u8], first: u8) {
     }
 }
 
-fn print_told<W: Write>(out: &mut W, told: Told) -> io::Result<()> {
-    console::print_four(
-        out,
-        told.number as u64,
-        told.place as u64,
-        told.answer as u64,
-        told.witness as u64,
-    )
+fn print_told<W: Write>(out: &mut W, outcome: Result<Lengths, Refused>) -> io::Result<()> {
+    match outcome {
+        Ok(long) => console::print_four(out, 0, 0, long.answer as u64, long.witness as u64),
+        Err(refused) => {
+            let reason = Reason::from(refused);
+            console::print_four(out, u64::from(reason.number), reason.place as u64, 0, 0)
+        }
+    }
 }
 
 fn print_left<W: Write>(
@@ -34,7 +34,7 @@ fn print_left<W: Write>(
     answer: &mut [u8],
     witness: &mut [u8],
 ) -> io::Result<()> {
-    print_told(out, tell(book, answer, witness))?;
+    print_told(out, rewrite(book, answer, witness))?;
     out.write_all(answer)?;
     out.write_all(witness)
 }

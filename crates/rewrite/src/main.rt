@@ -11,86 +11,24 @@
 mod areas; // what was left in the two lent areas
 mod outcome; // the listing or the refusal; answer and witness as files
 mod repeat; // the same book several times
-mod told; // what the rewriter answered, as numbers
 
 use crate::areas::print_areas;
 use crate::outcome::{print_outcome, store_outcome};
 use crate::repeat::print_last;
-use console::input::{fill, pass, size};
-use spec::LONGEST_BOOK;
-use std::env::Env;
-use std::fs::Files;
+use console::input::{each, next_book, one_book, size};
 use std::io;
 use std::io::{Read, Write};
 
-// One byte more than the longest sound book: what a book has past that changes nothing, it is
-// refused with 2.
-const ROOM: usize = LONGEST_BOOK + 1;
-
-fn one_book<E: Env + Files + Eprint, R: Read, W: Write>(
-    rt: &E,
-    input: &mut R,
-    out: &mut W,
-    store: bool,
-) -> io::Result<()> {
-    let mut book = [0u8; ROOM];
-    let n = fill(input, &mut book, u64::MAX)?;
-    if store {
-        store_outcome(rt, out, &book[..n])
-    } else {
-        print_outcome(out, &book[..n])
-    }
-}
-
-// What is printed of each of many books.
-#[derive(Clone, Copy)]
-enum Form {
-    Listing,
-    Areas,
-    Repeated,
-}
-
-// How often the next book is rewritten: where that is asked for, it stands before the book. None where the input ends.
-fn times_of<R: Read>(input: &mut R, form: Form) -> io::Result<Option<u32>> {
-    match form {
-        Form::Repeated => size(input),
-        _ => Ok(Some(1)),
-    }
-}
-
-fn print_one<W: Write>(out: &mut W, form: Form, times: u32, book: &[u8]) -> io::Result<()> {
-    match form {
-        Form::Listing => print_outcome(out, book),
-        Form::Areas => print_areas(out, book),
-        Form::Repeated => print_last(out, book, times as u64),
-    }
-}
-
-// The next of many books; answers whether there was one. What is printed of it is written as soon as it is known.
-fn next_book<R: Read, W: Write>(input: &mut R, out: &mut W, form: Form) -> io::Result<bool> {
-    let Some(times) = times_of(input, form)? else {
+// The next of many books, rewritten as often as stands before it; answers whether there was one.
+fn next_repeated<R: Read, W: Write>(input: &mut R, out: &mut W) -> io::Result<bool> {
+    let Some(times) = size(input)? else {
         return Ok(false);
     };
-    let Some(size) = size(input)? else {
-        return Ok(false);
-    };
-    let size = size as u64;
-    let mut book = [0u8; ROOM];
-    let n = fill(input, &mut book, size)?;
-    print_one(out, form, times, &book[..n])?;
-    out.flush()?;
-    pass(input, size - n as u64)?;
-    Ok(true)
-}
-
-// A proved loop has to end, and nothing says that the input does: no input uses up so many turns.
-fn many_books<R: Read, W: Write>(input: &mut R, out: &mut W, form: Form) -> io::Result<()> {
-    for _ in 0..u64::MAX {
-        if !next_book(input, out, form)? {
-            break;
-        }
-    }
-    Ok(())
+    next_book(
+        input,
+        out,
+        |out, book| print_last(out, book, u64::from(times)),
+    )
 }
 
 fn main(rt: HostRuntime) -> io::Result<()> {
@@ -99,11 +37,11 @@ fn main(rt: HostRuntime) -> io::Result<()> {
     let mut input = rt.reader();
     let mut out = io::writer(&rt);
     match &word[..n] {
-        b"many" => many_books(&mut input, &mut out, Form::Listing)?,
-        b"areas" => many_books(&mut input, &mut out, Form::Areas)?,
-        b"repeat" => many_books(&mut input, &mut out, Form::Repeated)?,
-        b"store" => one_book(&rt, &mut input, &mut out, true)?,
-        _ => one_book(&rt, &mut input, &mut out, false)?,
+        b"many" => each(|| next_book(&mut input, &mut out, |out, book| print_outcome(out, book)))?,
+        b"areas" => each(|| next_book(&mut input, &mut out, |out, book| print_areas(out, book)))?,
+        b"repeat" => each(|| next_repeated(&mut input, &mut out))?,
+        b"store" => one_book(&mut input, |book| store_outcome(&rt, &mut out, book))?,
+        _ => one_book(&mut input, |book| print_outcome(&mut out, book))?,
     }
     out.flush()
 }

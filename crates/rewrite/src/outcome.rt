@@ -1,8 +1,8 @@
 // A book's listing, or its refusal; and answer and witness as files, for the checker.
-use crate::told::{Told, tell};
 use console::words::{path_of, print_failure, word};
 use console::{print_listing, print_refusal};
-use spec::{ANSWER_ROOM, WITNESS_ROOM};
+use rewriter::rewrite;
+use spec::{ANSWER_ROOM, Lengths, Refused, WITNESS_ROOM};
 use std::env::Env;
 use std::fs::Files;
 use std::io::Write;
@@ -23,36 +23,33 @@ fn write_file<R: Env + Files + Eprint>(rt: &R, argument: usize, bytes: &[u8]) {
 
 // The first n bytes, or as many as there are.
 fn front(bytes: &[u8], n: usize) -> &[u8] {
-    if bytes.len() < n {
-        return bytes;
-    }
-    &bytes[..n]
+    bytes.get(..n).unwrap_or(bytes)
 }
 
 // The listing or the refusal.
 fn print_answer<W: Write>(
     out: &mut W,
     book: &[u8],
-    told: &Told,
+    outcome: Result<Lengths, Refused>,
     answer: &[u8],
     witness: &[u8],
 ) -> io::Result<()> {
-    if told.number > 0 {
-        return print_refusal(out, told.number, told.place);
+    match outcome {
+        Err(refused) => print_refusal(out, refused.into()),
+        Ok(long) => print_listing(
+            out,
+            book,
+            front(answer, long.answer),
+            front(witness, long.witness),
+        ),
     }
-    print_listing(
-        out,
-        book,
-        front(answer, told.answer),
-        front(witness, told.witness),
-    )
 }
 
 pub(crate) fn print_outcome<W: Write>(out: &mut W, book: &[u8]) -> io::Result<()> {
     let mut answer = [0u8; ANSWER_ROOM];
     let mut witness = [0u8; WITNESS_ROOM];
-    let told = tell(book, &mut answer, &mut witness);
-    print_answer(out, book, &told, &answer, &witness)
+    let outcome = rewrite(book, &mut answer, &mut witness);
+    print_answer(out, book, outcome, &answer, &witness)
 }
 
 // The same; answer and witness are also written to the files that the second and the third word name,
@@ -64,12 +61,12 @@ pub(crate) fn store_outcome<R: Env + Files + Eprint, W: Write>(
 ) -> io::Result<()> {
     let mut answer = [0u8; ANSWER_ROOM];
     let mut witness = [0u8; WITNESS_ROOM];
-    let told = tell(book, &mut answer, &mut witness);
-    let printed = print_answer(out, book, &told, &answer, &witness);
+    let outcome = rewrite(book, &mut answer, &mut witness);
+    let printed = print_answer(out, book, outcome, &answer, &witness);
     let flushed = out.flush();
-    if told.number == 0 {
-        write_file(rt, 2, front(&answer, told.answer));
-        write_file(rt, 3, front(&witness, told.witness));
+    if let Ok(long) = outcome {
+        write_file(rt, 2, front(&answer, long.answer));
+        write_file(rt, 3, front(&witness, long.witness));
     }
     printed?;
     flushed

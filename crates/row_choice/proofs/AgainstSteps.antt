@@ -19,7 +19,6 @@ use Rattle.book_codes.proofs.Beginnings.{starts-long}
 use Rattle.book_codes.proofs.Read.{UsePart, use-part}
 use Rattle.bits.specs.Sets.{Has, with}
 use Rattle.bits.proofs.Laws.{has-none, with-new, with-old, with_cases}
-use Rattle.search_meaning.proofs.InUse.{uses-few}
 use Rattle.search_meaning.proofs.Owners.{uses-long}
 use Rattle.row_choice.specs.Dominators.{Pair, PairNeeds, PairSays, Against, AgainstNeeds, AgainstSays}
 
@@ -46,12 +45,6 @@ module _ {source widths target begins : List ℕ} {n : ℕ} where
     target-long : length target ≡ 9 * length (joined (uses s 0 rows))
     target-long = ap length a.all.codes ∙ codes-length own_code (joined (uses s 0 rows))
 
-    few-targets : length (joined (uses s 0 rows)) ≤ 512
-    few-targets =
-        let f = a.few in
-        let c = a.count in
-        omega (arith, uses-few a.sound.arities s a.sound.question a.sound.bounds 0 rows a.sound.within)
-
     module _ (d : ℕ) (h : d < n) where
       use-at : UsePart s rows own_code target d (get_or begins d 0) (get_or begins (d + 1) 0)
       use-at = use-part s rows own_code [] target begins begins codes-front starts-front d (let c = a.count in omega arith)
@@ -60,18 +53,12 @@ module _ {source widths target begins : List ℕ} {n : ℕ} where
       pair-at = record { sound = a.sound; under = a.under; over = (let c = a.count in omega arith); codes = use-at.codes }
 
   module _ (a : AgainstNeeds source widths target begins n) where
-    pub against-few : n ≤ 64
-    against-few = a.is.few
-
     module _ (d : ℕ) (h : d < n) where
       pub in_order : get_or begins d 0 ≤ get_or begins (d + 1) 0
       in_order = omega (arith, (use-at a.is d h).rises)
 
       pub part-inside : 9 * get_or begins (d + 1) 0 ≤ length target
       part-inside = omega (arith, (use-at a.is d h).within, target-long a.is)
-
-      pub part_small : get_or begins (d + 1) 0 ≤ 512
-      part_small = omega (arith, (use-at a.is d h).within, few-targets a.is)
 
       pub some_pair : PairNeeds source widths (part_of target begins d)
       some_pair = record { summaries = a.summaries; rows = a.rows; d = d; r = a.r; is = pair-at a.is d h }

@@ -1,6 +1,7 @@
 -- The task of choosing, as the codes that are lent.
 use mathlib.Core.Path.{◌∙◌}
 use mathlib.Core.List.{List}
+use Rattle.std.specs.Prelude.{Option}
 use Prim.Native.Nat.{ℕ, ◌*◌}
 use native.Mathlib.Omega.{arith}
 use lib.ListN.{take, replicate}
@@ -59,5 +60,5 @@ module _ {book rows : List ℕ} {n : ℕ} (a : ChoiceNeeds book rows n) {before 
       table = table_of (asked-rows a.is) d;
     }
 
-    pub rows-chosen : {r : Chosen} → ChoiceSays lent bound n r → RowChoiceSays book rows n r
+    pub rows-chosen : {r : Option Chosen} → ChoiceSays lent bound n r → RowChoiceSays book rows n r
     rows-chosen h = record { by = λ b o. h.by (admitted_of b) b.question (all_rows (admitted_of b) b.question) (posed-by b o) }

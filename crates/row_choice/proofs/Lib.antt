@@ -1,6 +1,7 @@
 pub mod AgainstSteps
 pub mod AskedLaws
 pub mod ChooseSteps
+pub mod Chunks
 pub mod ExpandSteps
 pub mod PairSteps
 pub mod RowSteps

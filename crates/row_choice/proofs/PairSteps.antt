@@ -1,10 +1,9 @@
 -- One row's use against another's.
 use mathlib.Core.Path.{◌≡◌, refl, sym, ap, ◌∙◌}
-use mathlib.Core.Bool.{Bool, true, false, not}
+use mathlib.Core.Bool.{Bool, false}
 use mathlib.Core.List.{List}
-use Prim.Native.Nat.{ℕ, ◌+◌, ◌*◌, ◌/◌, ◌<◌, ◌≤◌}
+use Prim.Native.Nat.{ℕ, ◌*◌, ◌/◌, ◌<◌, ◌≤◌}
 use native.Mathlib.Omega.{arith}
-use native.Mathlib.Decide.{dec_lt}
 use lib.ListN.{length, get_or, take, replicate}
 use Rattle.spec.specs.Words.{Term, Subgoal}
 use Rattle.spec.specs.Summaries.{Summaries, Own, in_place}
@@ -19,19 +18,7 @@ use Rattle.search_meaning.proofs.AtCodes.{relation-at}
 use Rattle.search_meaning.proofs.InUse.{use-few, use-some}
 use Rattle.first_shortest.specs.Pruning.{UsesBy, DominanceNeeds, DominanceSays}
 use Rattle.row_choice.specs.Dominators.{SoundRows, Pair, PairNeeds, NoRelation, PairSays}
-use Rattle.spec.proofs.Lists.Tests.{true-not-false}
 use Rattle.spec.proofs.Decided.Rows.{RowList}
-
--- one subgoal more that is not of the relation
-pub none_yet : (target : List ℕ) {relation k : ℕ} → ((j : ℕ) → j < k → get_or target (9 * j) 0 ≡ relation → ⊥) → (get_or target (9 * k) 0 ≡ relation → ⊥) → (j : ℕ) → j < k + 1 → get_or target (9 * j) 0 ≡ relation → ⊥
-none_yet target {relation} {k} before here j h e = elim (dec_lt j k) [
-  | yes l ↦ before j l e
-  | no l ↦ here (let same : k ≡ j = omega arith in ap (λ i. get_or target (9 * i) 0) same ∙ e)
-]
-
-pub told-no : (target : List ℕ) {relation : ℕ} (r : Bool) → NoRelation target relation r → not r ≡ true → NoRelation target relation false
-told-no target true n e = absurd (true-not-false (sym e))
-told-no target false n e = n
 
 -- "summary 1 to 8" subgoals
 row-few : {s : Summaries} {rows : RowList} → SoundRows s rows → (r : ℕ) → r < length rows → length (in_place s r (row_at rows r)) ≤ 8
@@ -71,12 +58,6 @@ module _ {source widths target : List ℕ} where
 
     pub pair-targets : length target / 9 ≤ 8
     pair-targets = few-targets p.is
-
-    pub pair-lasts : length (take (length widths) (replicate {A = ℕ} 8 0)) ≡ length widths
-    pair-lasts = zeros-long (length widths) pair-goals
-
-    pub pair-own : length (take (length target / 9) (replicate {A = ℕ} 8 0)) ≡ length target / 9
-    pair-own = zeros-long (length target / 9) pair-targets
 
     pub pair-uses : DominanceNeeds (posed source widths (take (length widths) (replicate 8 0)) target (take (length target / 9) (replicate 8 0)))
     pair-uses = record { summaries = p.summaries; rows = p.rows; over = p.d; under = p.r; by = uses-by p.is }

@@ -1,5 +1,5 @@
 -- What is asked of all summary rows of a sound book, and what is promised.
-use Rattle.std.specs.Prelude.{◌≡◌, List, ◌++◌, ℕ, ◌≤◌, length}
+use Rattle.std.specs.Prelude.{◌≡◌, List, Option, ◌++◌, ℕ, ◌≤◌, length}
 use Rattle.spec.specs.Book.{Book, admitted_of}
 use Rattle.spec.specs.BookLayout.{SoundBook}
 use Rattle.spec.proofs.Decided.Rows.{all_rows}
@@ -21,5 +21,5 @@ pub record ChoiceNeeds (book rows : List ℕ) (n : ℕ) : Type 0 where
   pub is : ChoiceNeedsOf book rows n value
 
 -- The first of the shortest equivalent lists of them, or that there is none.
-pub record RowChoiceSays (book rows : List ℕ) (n : ℕ) (r : Chosen) : Type 0 where
+pub record RowChoiceSays (book rows : List ℕ) (n : ℕ) (r : Option Chosen) : Type 0 where
   pub by : (b : Book) → ChoiceNeedsOf book rows n b → ChosenBy (admitted_of b) b.question (all_rows (admitted_of b) b.question) r

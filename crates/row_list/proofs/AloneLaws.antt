@@ -1,20 +1,18 @@
 -- The codes of subgoals of one term: how many, which, and whose.
-use mathlib.Core.Path.{◌≡◌, refl, sym, ap, ◌∙◌}
-use mathlib.Core.List.{List, [], ◌∷◌, ◌++◌, map}
-use Prim.Native.Nat.{ℕ, zero, suc, ◌+◌, ◌*◌, ◌/◌, ◌%◌, ◌<◌, ◌≤◌}
+use mathlib.Core.Path.{◌≡◌, refl, ap, ◌∙◌}
+use mathlib.Core.List.{List, [], ◌∷◌, ◌++◌, map, map-append}
+use Prim.Native.Nat.{ℕ, suc, ◌+◌, ◌-◌, ◌*◌, ◌<◌, ◌≤◌}
 use native.Mathlib.Omega.{arith}
-use lib.ListN.{length, get_or, take, set, length-map}
-use lib.Seq.{sets}
+use lib.ListN.{length, get_or, take, length-map}
+use lib.Seq.{length-take-le, take-suc}
+use borrow.Rule.Slice.PartMut.{put_mid}
 use Rattle.spec.specs.Words.{Term, itself}
 use Rattle.spec.specs.Given.{at_front}
-use Rattle.spec.proofs.Lists.At.{map_get}
-use Rattle.choice_theory.specs.Numbered.{nothing}
 use Rattle.codes.specs.Code.{subgoal_codes, codes_of}
-use Rattle.codes.proofs.Padded.{padded-at, codes-length}
-use Rattle.rule_codes.proofs.Stores.{stores-more, stores-end, front-more}
-use Rattle.search_meaning.proofs.AtCodes.{codes-get}
+use Rattle.codes.proofs.Padded.{codes-length, codes-more}
 use Rattle.summary_rows.specs.RowTask.{alone}
-use Rattle.row_list.specs.Alone.{alone_of, alone_code, alone_codes}
+use Rattle.row_list.specs.Alone.{alone_of, alone_codes}
+use Rattle.row_list.proofs.Behind.{written-behind}
 
 pub alone-long : (ws : List ℕ) → length (alone_codes ws) ≡ 9 * length ws
 unfolding alone_codes
@@ -26,48 +24,24 @@ unfolding alone_codes
 alone-codes code [] = refl
 alone-codes code (t ∷ ts) = ap (λ l. subgoal_codes code (alone t) ++ l) (alone-codes code ts)
 
-pub code-head : (w k : ℕ) → k ≡ 0 → 255 ≡ alone_code w k
-unfolding alone_code
-code-head w k e = rw e refl
+pub alone-start : (before : List ℕ) → before ≡ at_front (alone_codes []) before
+unfolding alone_codes
+alone-start before = refl
 
-pub code-term : (w k : ℕ) → k ≡ 1 → w ≡ alone_code w k
-unfolding alone_code
-code-term w k e = rw e refl
+-- one more behind those that are written
+alone-push : (ws : List ℕ) (k : ℕ) → k < length ws → alone_codes (take (k + 1) ws) ≡ alone_codes (take k ws) ++ subgoal_codes itself (alone_of (get_or ws k 0))
+unfolding alone_codes
+alone-push ws k h =
+    let one : k + 1 ≡ suc k = omega arith in
+    let w : ℕ = get_or ws k 0 in
+    ap (λ n. codes_of itself (map alone_of (take n ws))) one
+    ∙ ap (λ l. codes_of itself (map alone_of l)) (take-suc ws k 0 h)
+    ∙ ap (codes_of itself) (map-append alone_of (take k ws) (w ∷ []))
+    ∙ codes-more itself (map alone_of (take k ws)) (alone_of w)
 
-pub code-none : (w k : ℕ) → (k ≡ 0 → ⊥) → (k ≡ 1 → ⊥) → 1 ≡ alone_code w k
-unfolding alone_code
-code-none w zero h l = absurd (h refl)
-code-none w (suc zero) h l = absurd (l refl)
-code-none w (suc (suc k)) h l = refl
-
-nine-codes : (w r : ℕ) → r < 9 → get_or (subgoal_codes itself (alone_of w)) r 0 ≡ alone_code w r
-unfolding alone_code
-nine-codes w zero h = refl
-nine-codes w (suc zero) h = refl
-nine-codes w (suc (suc r)) h = padded-at 8 (w ∷ []) (suc r) (omega arith)
-
-module _ (ws : List ℕ) (k : ℕ) (h : k < 9 * length ws) where
-  place : k / 9 < length ws
-  place = omega arith
-
-  pub alone_at : alone_code (get_or ws (k / 9) 0) (k % 9) ≡ get_or (alone_codes ws) k 0
-  unfolding alone_codes
-  alone_at =
-      let parts : k ≡ 9 * (k / 9) + k % 9 = omega arith in
-      let inside : k / 9 < length (map alone_of ws) = omega (arith, length-map ws alone_of, place) in
-      let small : k % 9 < 9 = omega arith in
-      sym (ap (λ i. get_or (codes_of itself (map alone_of ws)) i 0) parts
-      ∙ codes-get itself (map alone_of ws) (k / 9) (k % 9) inside small
-      ∙ ap (λ g. get_or (subgoal_codes itself g) (k % 9) 0) (map_get alone_of ws (k / 9) 0 nothing place)
-      ∙ nine-codes (get_or ws (k / 9) 0) (k % 9) small)
-
--- stored one after the other
-module _ (ws before : List ℕ) (room : 9 * length ws ≤ length before) where
-  pub alone-goes : (k w : ℕ) (out : List ℕ) → k < 9 * length ws → out ≡ sets before 0 (take k (alone_codes ws)) → w ≡ alone_code (get_or ws (k / 9) 0) (k % 9) → set out k w ≡ sets before 0 (take (k + 1) (alone_codes ws))
-  alone-goes k w out h e f =
-      let one : k + 1 ≡ suc k = omega arith in
-      let zero : 0 + k ≡ k = omega arith in
-      ap (λ l. set l k w) e ∙ ap (λ n. set (sets before 0 (take k (alone_codes ws))) n w) (sym zero) ∙ stores-more before 0 (alone_codes ws) k w (omega (arith, alone-long ws)) (f ∙ alone_at ws k h) ∙ ap (λ n. sets before 0 (take n (alone_codes ws))) (sym one)
-
-  pub alone-ends : (k : ℕ) (out : List ℕ) → 9 * length ws ≤ k → out ≡ sets before 0 (take k (alone_codes ws)) → out ≡ at_front (alone_codes ws) before
-  alone-ends k out h e = e ∙ stores-end before 0 (alone_codes ws) k (omega (arith, alone-long ws)) ∙ front-more [] (alone_codes ws) before (omega (arith, alone-long ws))
+pub alone-more : (ws before : List ℕ) → 9 * length ws ≤ length before → (k : ℕ) → k < length ws → (out part : List ℕ) → out ≡ at_front (alone_codes (take k ws)) before → part ≡ subgoal_codes itself (alone_of (get_or ws k 0))
+    → put_mid (9 * k) (9 * k + 9 - 9 * k) out part ≡ at_front (alone_codes (take (k + 1) ws)) before
+alone-more ws before room k h out part e f =
+    let long : length (alone_codes (take k ws)) ≡ 9 * k = omega (arith, alone-long (take k ws), length-take-le k ws (omega arith)) in
+    let nine : 9 * k + 9 - 9 * k ≡ 9 = omega arith in
+    rw (nine, f, alone-push ws k h) (written-behind (alone_codes (take k ws)) (subgoal_codes itself (alone_of (get_or ws k 0))) before out (9 * k) 9 long refl e)

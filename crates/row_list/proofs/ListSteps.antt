@@ -1,12 +1,11 @@
 -- The list of all rows, summary by summary.
 use mathlib.Core.Path.{◌≡◌, refl, sym, ap, ◌∙◌, subst}
-use mathlib.Core.Bool.{true, false}
 use mathlib.Core.Option.{Option, some, none}
 use mathlib.Core.List.{List}
 use Prim.Native.Nat.{ℕ, suc, ◌+◌, ◌*◌, ◌<◌, ◌≤◌}
 use native.Mathlib.Omega.{arith}
-use lib.ListN.{length, take, drop, length-append, length-drop, length-map}
-use lib.Seq.{length-take-le}
+use lib.ListN.{length, drop, length-append, length-drop, length-map}
+use Rattle.std.specs.Prelude.{Some, None}
 use Rattle.spec.specs.Words.{Rule}
 use Rattle.spec.specs.Summaries.{summary}
 use Rattle.spec.specs.Book.{Book, if_true, admitted_of}
@@ -14,9 +13,7 @@ use Rattle.spec.specs.Refresh.{admitted}
 use Rattle.spec.specs.BookLayout.{SoundBook}
 use Rattle.spec.specs.Contents.{count}
 use Rattle.spec.specs.Table.{most_rows}
-use Rattle.spec.proofs.Lists.Tests.{passes, fails}
 use Rattle.spec.proofs.Decided.Sound.{AllSafe}
-use Rattle.spec.proofs.Decided.Rows.{all_rows}
 use Rattle.spec.proofs.Bytes.BookStands.{book-count}
 use Rattle.spec.proofs.Bytes.BookPasses.{book-loads}
 use Rattle.spec.proofs.Bytes.Within.{entries-some, loads-room}
@@ -24,11 +21,9 @@ use Rattle.outcomes.proofs.Bounds.{book-bounds}
 use Rattle.codes.specs.Code.{term_code, codes_of}
 use Rattle.codes.proofs.Padded.{codes-length}
 use Rattle.summary_rows.specs.Tables.{TableTo}
-use Rattle.summary_rows.specs.declared.Tally.{Tally}
 use Rattle.summary_rows.proofs.TableLaws.{table_none, table-skip, table_more, table-over, over-codes, table-all}
 use Rattle.row_list.specs.Listing.{ListNeeds, RowsOver, AllStand, ListSays}
 use Rattle.row_list.specs.Turns.{TargetNeeds, TurnNeeds, TurnSays, TablesTo}
-use Rattle.row_list.specs.declared.RowsListed.TheVariants.{All, Over}
 
 safe-of : (b : Book) {book : List ℕ} → SoundBook book b → AllSafe (admitted_of b)
 safe-of b s = (book-bounds b s.value).safe
@@ -67,7 +62,7 @@ module _ {book : List ℕ} {area : ℕ} (w : ListNeeds book area) where
         room = let area = w.room in omega (arith, tables-long);
       }
 
-      pub tables_end : n ≤ i → i ≤ n → ListSays book before out (All found)
+      pub tables_end : n ≤ i → i ≤ n → ListSays book before out (Some found)
       tables_end h l = record { says = says }
         where
           says : (b : Book) → SoundBook book b → AllStand (admitted_of b) b.question before out found
@@ -76,35 +71,26 @@ module _ {book : List ℕ} {area : ℕ} (w : ListNeeds book area) where
               let a = table-all (admitted_of b) b.question before (safe-of b s) out found (subst (λ k. TableTo (admitted_of b) b.question k before out found) same (t.table b s)) in
               record { count = a.0; few = omega (arith, a.0, a.1); codes = a.2 }
 
-    module _ {after : List ℕ} {r : Tally} (turn : TurnSays book (i + 1) found out after r) where
-      pub tables-go : r.over ≡ false → TablesTo book (i + 1) before after r.count
-      tables-go fits = record { table = λ b s. go b s (summary (admitted_of b) (i + 1)) refl }
-        where
-          go : (b : Book) → SoundBook book b → (o : Option (Rule ℕ)) → summary (admitted_of b) (i + 1) ≡ o → TableTo (admitted_of b) b.question (i + 1) before after r.count
-          go b s (some v) e =
-              let one : i + 1 ≡ suc i = omega arith in
-              rw one (table_more (admitted_of b) b.question before i out found (t.table b s) v (rw one at e) after r (rw one at (turn.rows b s v e)) fits)
-          go b s none e =
-              let one : i + 1 ≡ suc i = omega arith in
-              let l = turn.left b s e in
-              rw (one, l.1, l.2) (table-skip (admitted_of b) b.question before i out found (rw one at e) (t.table b s))
+    pub tables-go : {after : List ℕ} {m : ℕ} → TurnSays book (i + 1) found out after (Some m) → TablesTo book (i + 1) before after m
+    tables-go {after} {m} turn = record { table = λ b s. go b s (summary (admitted_of b) (i + 1)) refl }
+      where
+        go : (b : Book) → SoundBook book b → (o : Option (Rule ℕ)) → summary (admitted_of b) (i + 1) ≡ o → TableTo (admitted_of b) b.question (i + 1) before after m
+        go b s (some v) e =
+            let one : i + 1 ≡ suc i = omega arith in
+            rw one (table_more (admitted_of b) b.question before i out found (t.table b s) v (rw one at e) after m (rw one at (turn.rows b s v e)))
+        go b s none e =
+            let one : i + 1 ≡ suc i = omega arith in
+            let l = turn.left b s e in
+            let same : m ≡ found = cc in
+            rw (one, same, l.1) (table-skip (admitted_of b) b.question before i out found (rw one at e) (t.table b s))
 
-      module _ (over : r.over ≡ true) where
-        pub tables-over : ListSays book before after Over
-        tables-over = record { says = λ b s. go b s (summary (admitted_of b) (i + 1)) refl }
-          where
-            go : (b : Book) → SoundBook book b → (o : Option (Rule ℕ)) → summary (admitted_of b) (i + 1) ≡ o → RowsOver (admitted_of b) b.question before after
-            go b s (some v) e =
-                let one : i + 1 ≡ suc i = omega arith in
-                let f : summary (admitted_of b) (suc i) ≡ some v = rw one at e in
-                let a = rw one at (turn.rows b s v e) in
-                record { many = table-over (admitted_of b) b.question before i out found (t.table b s) v f after r a (safe-of b s) over; codes = over-codes (admitted_of b) b.question before i out found (t.table b s) v f after r a (safe-of b s) over }
-            go b s none e = absurd (fails (turn.left b s e).0 (passes over))
-
-        pub over-long : length after ≡ length before
-        over-long =
-            let m = tables-over.says w.value w.sound in
-            let area = w.room in
-            let rows = take most_rows (all_rows (admitted_of w.value) w.value.question) in
-            let all = m.many in
-            ap length m.codes ∙ omega (arith, length-append (codes_of term_code rows) (drop (9 * most_rows) before), codes-length term_code rows, length-drop (9 * most_rows) before, length-take-le most_rows (all_rows (admitted_of w.value) w.value.question) (omega arith))
+    pub tables-over : {after : List ℕ} → TurnSays book (i + 1) found out after None → ListSays book before after None
+    tables-over {after} turn = record { says = λ b s. go b s (summary (admitted_of b) (i + 1)) refl }
+      where
+        go : (b : Book) → SoundBook book b → (o : Option (Rule ℕ)) → summary (admitted_of b) (i + 1) ≡ o → RowsOver (admitted_of b) b.question before after
+        go b s (some v) e =
+            let one : i + 1 ≡ suc i = omega arith in
+            let f : summary (admitted_of b) (suc i) ≡ some v = rw one at e in
+            let a = rw one at (turn.rows b s v e) in
+            record { many = table-over (admitted_of b) b.question before i out found (t.table b s) v f after (safe-of b s) a; codes = over-codes (admitted_of b) b.question before i out found (t.table b s) v f after (safe-of b s) a }
+        go b s none e = cc ((turn.left b s e).0)

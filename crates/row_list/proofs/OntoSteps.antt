@@ -3,7 +3,7 @@ use mathlib.Core.Path.{◌≡◌, ap, ◌∙◌}
 use mathlib.Core.List.{List, map}
 use Prim.Native.Nat.{ℕ, ◌*◌, ◌<◌, ◌≤◌}
 use native.Mathlib.Omega.{arith}
-use lib.ListN.{length, take, replicate, length-append, length-map}
+use lib.ListN.{length, get_or, take, replicate, length-append, length-map}
 use lib.Seq.{length-take-le}
 use Rattle.spec.specs.Words.{Rule}
 use Rattle.spec.specs.Book.{Book}
@@ -16,7 +16,8 @@ use Rattle.spec.proofs.Bytes.Within.{entries-some}
 use Rattle.spec.proofs.Lists.Zeros.{zeros-take}
 use Rattle.codes.specs.Code.{term_code, codes_of}
 use Rattle.codes.proofs.Padded.{codes-length}
-use Rattle.rule_codes.specs.Laid.{QuestionLaid}
+use Rattle.rule_codes.specs.Laid.{LaidOver, QuestionLaid}
+use Rattle.rule_codes.proofs.RuleLaid.{goals-counted, rule-there}
 use Rattle.rule_codes.proofs.Stores.{front_length, front-again}
 use Rattle.summary_rows.specs.RowTask.{alone, onto}
 use Rattle.row_list.specs.Tasks.{TargetCodes}
@@ -34,6 +35,12 @@ module _ {book : List ℕ} {area : ℕ} (w : ListNeeds book area) where
   module _ {relations body : List ℕ} (first : relations ≡ part_at book 0) (part : body ≡ part_at book 1) where
     pub question-is : QuestionLaid relations body
     question-is = record { known = rw first loads-it.relations.arities; rule = w.value.question; layout = question-laid first part w.value w.sound }
+
+    pub question-rule : ∥ LaidOver relations body ∥₁
+    question-rule = rule-there question-is.layout
+
+    pub question-goals : get_or body 1 0 ≤ 12
+    question-goals = let few = question-is.layout.within.few in omega (arith, goals-counted question-is.layout)
 
     module _ {before after : List ℕ} {n : ℕ} (wide : length before ≡ 972) (t : TargetCodes relations body before after n) where
       targets-most : (q : Rule ℕ) (l : Layout relations question_most body q) → length (onto (t.terms q l) q) ≤ 108

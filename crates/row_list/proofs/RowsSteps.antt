@@ -4,51 +4,31 @@ use mathlib.Core.List.{List, map}
 use Prim.Native.Nat.{ℕ, ◌*◌, ◌≤◌}
 use native.Mathlib.Omega.{arith}
 use lib.ListN.{length, take, replicate, length-append, length-map}
-use lib.Seq.{length-take-le}
+use Rattle.std.specs.Prelude.{Option}
 use Rattle.spec.specs.Words.{Rule}
 use Rattle.spec.proofs.Lists.Zeros.{zeros-take}
 use Rattle.codes.specs.Code.{slot_code, codes_of, widths_of}
 use Rattle.codes.proofs.Padded.{codes-length, widths-length}
 use Rattle.rule_codes.specs.Promises.{HeadCount}
-use Rattle.rule_codes.proofs.Stores.{front_length, front-again}
+use Rattle.rule_codes.proofs.Stores.{front-again}
 use Rattle.task.specs.Task.{Task, posed}
 use Rattle.summary_rows.specs.RowTask.{alone, placed, TaskOf}
+use Rattle.summary_rows.specs.RowPlaces.{HeadTask}
 use Rattle.summary_rows.specs.RowsAfter.{RowsNeeds, RowsSays}
-use Rattle.summary_rows.specs.declared.Tally.{Tally}
+use Rattle.summary_rows.proofs.HeadLaws.{row-ready}
 use Rattle.row_list.specs.Tasks.{SummaryIs, SourceCodes}
 use Rattle.row_list.specs.Placings.{SummaryTask, SummaryTaskNeeds, PlacedRows}
 
 module _ {relations bytes target own : List ℕ} {found area : ℕ} (w : SummaryTaskNeeds relations bytes target own found area)
-    {before source old widths : List ℕ} {n : ℕ} (s : SourceCodes relations bytes before source old widths n) (wide : length before ≡ 144) (many : length old ≡ 16) where
+    {before source old widths : List ℕ} {n : ℕ} (s : SourceCodes relations bytes before source old widths n) where
   few-goals : (v : Rule ℕ) → SummaryIs relations bytes v → length (placed v) ≤ 16
   few-goals v i =
       let heads = i.layout.within.short in
       let goals = i.layout.within.few in
       omega (arith, length-append (map alone v.head) v.body, length-map v.head alone)
 
-  pub goals-few : n ≤ 16
+  goals-few : n ≤ 16
   goals-few = let v = w.rule in let i = w.is.summary in omega (arith, s.count v i, few-goals v i)
-
-  pub source-long : length source ≡ 144
-  source-long =
-      let v = w.rule in
-      let i = w.is.summary in
-      ap length (s.codes v i) ∙ front_length (codes_of slot_code (placed v)) before (omega (arith, codes-length slot_code (placed v), few-goals v i)) ∙ wide
-
-  pub widths-long : length widths ≡ 16
-  widths-long =
-      let v = w.rule in
-      let i = w.is.summary in
-      ap length (s.widths v i) ∙ front_length (widths_of (placed v)) old (omega (arith, widths-length (placed v), few-goals v i)) ∙ many
-
-  pub source-part : length (take (9 * n) source) ≡ 9 * n
-  source-part = length-take-le (9 * n) source (omega (arith, source-long, goals-few))
-
-  pub widths-part : length (take n widths) ≡ n
-  widths-part = length-take-le n widths (omega (arith, widths-long, goals-few))
-
-  pub lasts-part : length (take n (replicate {A = ℕ} 16 0)) ≡ n
-  lasts-part = length-take-le n (replicate 16 0) (omega (arith, goals-few))
 
   abbrev lent : Task
   lent = posed (take (9 * n) source) (take n widths) (take n (replicate 16 0)) target own
@@ -77,8 +57,11 @@ module _ {relations bytes target own : List ℕ} {found area : ℕ} (w : Summary
         lasts-is : ◌≡◌ {A = List ℕ} (take n (replicate 16 0)) (replicate (length (placed v)) 0)
         lasts-is = zeros-take n 16 goals-few ∙ ap (λ k. replicate k 0) (s.count v p.summary)
 
+    pub rows-ready : HeadTask lent h
+    rows-ready = row-ready w.rule w.question w.is.onto.terms lent h (task-of w.rule w.question w.is)
+
     pub rows-asked : RowsNeeds lent h found area
     rows-asked = record { rule = w.rule; question = w.question; terms = w.is.onto.terms; task = task-of w.rule w.question w.is; few = w.few; room = w.room }
 
-    pub rows-placed : {number : ℕ} {out after : List ℕ} {r : Tally} → RowsSays lent h number found out after r → PlacedRows relations bytes target own number found out after r
+    pub rows-placed : {number : ℕ} {out after : List ℕ} {r : Option ℕ} → RowsSays lent h number found out after r → PlacedRows relations bytes target own number found out after r
     rows-placed a = record { rows = λ v q p. a.rows v q p.onto.terms (task-of v q p) }

@@ -17,13 +17,9 @@ use Rattle.spec.proofs.Bytes.RulePlaces.{head-terms}
 use Rattle.spec.proofs.Lists.At.{mapped}
 use Rattle.spec.proofs.Lists.Counted.{place_in}
 use Rattle.codes.specs.Code.{slot_code}
-use Rattle.rule_codes.specs.Laid.{Laid}
 use Rattle.rule_codes.specs.Promises.{HeadCount}
 use Rattle.rule_codes.proofs.Stores.{stores-more, stores-end, front-more}
 use Rattle.row_list.specs.Tasks.{SummaryIs, SomeSummary, HeadSlots}
-
-pub some-laid : {relations bytes : List ℕ} → SomeSummary relations bytes → Laid bytes
-some-laid {relations} w = record { arities = relations; most = 8; rule = w.rule; layout = w.is.layout }
 
 -- a variable's slot is its number
 plain-slot : (ts : List (Term ℕ)) → DistinctVariables ts → (t : Term ℕ) → t ∈ ts → number_of t ≡ slot_code t

@@ -3,14 +3,14 @@ use mathlib.Core.Path.{◌≡◌, refl, sym, ap, ◌∙◌}
 use mathlib.Core.List.{List, [], ◌∷◌, ◌++◌, map, map-append}
 use Prim.Native.Nat.{ℕ, zero, suc, ◌+◌, ◌*◌, ◌-◌, ◌≤◌}
 use native.Mathlib.Omega.{arith}
-use lib.ListN.{length, take, drop, replicate, length-append, length-map, length-replicate}
+use lib.ListN.{length, get_or, take, drop, replicate, length-append, length-map, length-replicate}
 use lib.Seq.{length-take-le}
 use Rattle.spec.specs.Words.{Term, Rule}
 use Rattle.spec.specs.Given.{at_front}
 use Rattle.codes.specs.Code.{slot_code, codes_of, widths_of}
 use Rattle.codes.proofs.Padded.{codes-length, codes-append, widths-length}
-use Rattle.rule_codes.specs.Laid.{LaidFor}
 use Rattle.rule_codes.specs.Promises.{HeadCount, BodyCodes, BodyWidths}
+use Rattle.rule_codes.proofs.RuleLaid.{goals-counted}
 use Rattle.rule_codes.proofs.Stores.{front_length, front-again}
 use Rattle.summary_rows.specs.RowTask.{alone, placed}
 use Rattle.row_list.specs.Alone.{alone_codes}
@@ -59,25 +59,15 @@ module _ {relations bytes : List ℕ} (w : SomeSummary relations bytes) {h : ℕ
     pub source-part : 9 * h ≤ length mid
     source-part = omega (arith, source-long, heads-few count w)
 
-    pub source-room : LaidFor relations bytes 9 (length (take (length mid - 9 * h) (drop (9 * h) mid)))
-    source-room = record {
-      most = 8;
-      rule = w.rule;
-      layout = w.is.layout;
-      room = let few = w.is.layout.within.few in omega (arith, part-long (9 * h) mid, source-long, heads-few count w);
-    }
+    pub source-room : 9 * get_or bytes 1 0 ≤ length (take (length mid - 9 * h) (drop (9 * h) mid))
+    source-room = let few = w.is.layout.within.few in omega (arith, goals-counted w.is.layout, part-long (9 * h) mid, source-long, heads-few count w)
 
     module _ {widths : List ℕ} (one : widths ≡ replicate 16 1) where
       pub widths-part : h ≤ length widths
       widths-part = omega (arith, heads-few count w, ap length one, length-replicate {A = ℕ} 16 1)
 
-      pub widths-room : LaidFor relations bytes 1 (length (take (length widths - h) (drop h widths)))
-      widths-room = record {
-        most = 8;
-        rule = w.rule;
-        layout = w.is.layout;
-        room = let few = w.is.layout.within.few in omega (arith, part-long h widths, ap length one, length-replicate {A = ℕ} 16 1, heads-few count w);
-      }
+      pub widths-room : 1 * get_or bytes 1 0 ≤ length (take (length widths - h) (drop h widths))
+      widths-room = let few = w.is.layout.within.few in omega (arith, goals-counted w.is.layout, part-long h widths, ap length one, length-replicate {A = ℕ} 16 1, heads-few count w)
 
       module _ {part tail : List ℕ} {n : ℕ} (codes : BodyCodes relations bytes slot_code (take (length mid - 9 * h) (drop (9 * h) mid)) part n) (wide : BodyWidths relations bytes (take (length widths - h) (drop h widths)) tail n) where
         pub source-goals : h + n ≤ 16

@@ -3,7 +3,7 @@ use mathlib.Core.Path.{◌≡◌, sym, ap, ◌∙◌}
 use mathlib.Core.List.{List, [], ◌++◌, map}
 use Prim.Native.Nat.{ℕ, ◌+◌, ◌*◌, ◌-◌, ◌≤◌}
 use native.Mathlib.Omega.{arith}
-use lib.ListN.{length, take, drop, length-append, length-map}
+use lib.ListN.{length, get_or, take, drop, length-append, length-map}
 use lib.Seq.{length-take-le}
 use Rattle.spec.specs.Words.{Term, Rule}
 use Rattle.spec.specs.RuleLayout.{Layout}
@@ -13,8 +13,9 @@ use Rattle.codes.specs.Code.{term_code, codes_of}
 use Rattle.codes.proofs.Padded.{codes-length, codes-append}
 use Rattle.rule_codes.specs.InOrder.{InOrder}
 use Rattle.rule_codes.specs.BodyTerms.{CodeOf, BodyTerms}
-use Rattle.rule_codes.specs.Laid.{LaidFor, QuestionLaid}
+use Rattle.rule_codes.specs.Laid.{QuestionLaid}
 use Rattle.rule_codes.specs.Promises.{BodyCodes}
+use Rattle.rule_codes.proofs.RuleLaid.{goals-counted}
 use Rattle.rule_codes.proofs.Stores.{front_length, front-again}
 use Rattle.summary_rows.specs.RowTask.{alone, TermsOf}
 use Rattle.row_list.specs.Alone.{alone_codes}
@@ -78,13 +79,8 @@ module _ {relations bytes : List ℕ} (laid : QuestionLaid relations bytes) {zer
     pub target-part : 9 * n ≤ length mid
     target-part = omega (arith, target-long, terms-few)
 
-    pub target_room : LaidFor relations bytes 9 (length (take (length mid - 9 * n) (drop (9 * n) mid)))
-    target_room = record {
-      most = question_most;
-      rule = laid.rule;
-      layout = laid.layout;
-      room = let few = laid.layout.within.few in omega (arith, part-long (9 * n) mid, target-long, terms-few);
-    }
+    pub target_room : 9 * get_or bytes 1 0 ≤ length (take (length mid - 9 * n) (drop (9 * n) mid))
+    target_room = let few = laid.layout.within.few in omega (arith, goals-counted laid.layout, part-long (9 * n) mid, target-long, terms-few)
 
     module _ {part : List ℕ} {k : ℕ} (codes : BodyCodes relations bytes term_code (take (length mid - 9 * n) (drop (9 * n) mid)) part k) where
       pub target-goals : n + k ≤ 108
@@ -99,6 +95,3 @@ module _ {relations bytes : List ℕ} (laid : QuestionLaid relations bytes) {zer
             behind (codes_of term_code (map alone (term_list q l))) (codes_of term_code q.body) target mid part (9 * n) (first-long q l) (body-fits q l) (first-written q l) (codes.codes question_most q l)
             ∙ ap (λ x. at_front x target) (sym (codes-append term_code (map alone (term_list q l)) q.body));
       }
-
-pub widths-room : {relations bytes : List ℕ} → QuestionLaid relations bytes → LaidFor relations bytes 1 12
-widths-room laid = record { most = question_most; rule = laid.rule; layout = laid.layout; room = let few = laid.layout.within.few in omega arith }

@@ -5,6 +5,7 @@ use mathlib.Core.Option.{some, none, none-ne-some, some-injective}
 use mathlib.Core.List.{List}
 use Prim.Native.Nat.{ℕ, zero, suc, ◌+◌, ◌*◌, ◌≤◌}
 use native.Mathlib.Omega.{arith}
+use Rattle.std.specs.Prelude.{Option, Some}
 use Rattle.spec.specs.Words.{Rule}
 use Rattle.spec.specs.Summaries.{place, summary}
 use Rattle.spec.specs.Book.{Summary, Book, admitted_of}
@@ -16,7 +17,6 @@ use Rattle.spec.proofs.Lists.Counted.{place_in}
 use Rattle.admission.specs.Admission.{HasSummary, AdmissionSays}
 use Rattle.admission.proofs.Standing.{standing}
 use Rattle.summary_rows.specs.RowsAfter.{RowsAfter}
-use Rattle.summary_rows.specs.declared.Tally.{Tally}
 use Rattle.row_list.specs.Tasks.{SummaryIs}
 use Rattle.row_list.specs.Placings.{SummaryTask, SummaryTaskNeeds, PlacedRows}
 use Rattle.row_list.specs.Turns.{TargetNeeds, TurnSays}
@@ -46,7 +46,7 @@ module _ {book : List ℕ} {i : ℕ} (has : HasSummary book i) where
         let u = standing has has.value has.sound in
         record { rule = u.0.rule; question = has.value.question; is = placing-of has.value has.sound u.0 u.1; few = few; room = room }
 
-    pub turn_in : {found : ℕ} {before after : List ℕ} {says : Bool} {r : Tally} → AdmissionSays book i says → says ≡ true → PlacedRows relations body target own i found before after r → TurnSays book i found before after r
+    pub turn_in : {found : ℕ} {before after : List ℕ} {says : Bool} {r : Option ℕ} → AdmissionSays book i says → says ≡ true → PlacedRows relations body target own i found before after r → TurnSays book i found before after r
     turn_in {found} {before} {after} {says} {r} a t p = record { rows = rows; left = left }
       where
         admitted : (b : Book) (s : SoundBook book b) → summary (admitted_of b) i ≡ some (standing has b s).0.rule
@@ -57,11 +57,11 @@ module _ {book : List ℕ} {i : ℕ} (has : HasSummary book i) where
             let u = standing has b s in
             subst (λ x. RowsAfter i x b.question found before after r) (some-injective u.0.rule v (sym (admitted b s) ∙ e)) (p.rows u.0.rule b.question (placing-of b s u.0 u.1))
 
-        left : (b : Book) → SoundBook book b → summary (admitted_of b) i ≡ none → (r.over ≡ false) × (r.count ≡ found) × (after ≡ before)
+        left : (b : Book) → SoundBook book b → summary (admitted_of b) i ≡ none → (r ≡ Some found) × (after ≡ before)
         left b s e = absurd (none-ne-some (standing has b s).0.rule (sym e ∙ admitted b s))
 
-  pub turn-out : (found : ℕ) (before : List ℕ) (says : Bool) → AdmissionSays book i says → says ≡ false → TurnSays book i found before before record { over = false; count = found }
-  turn-out found before says a f = record { rows = λ b s v e. absurd (none-ne-some v (sym (out b s) ∙ e)); left = λ b s e. (refl, refl, refl) }
+  pub turn-out : (found : ℕ) (before : List ℕ) (says : Bool) → AdmissionSays book i says → says ≡ false → TurnSays book i found before before (Some found)
+  turn-out found before says a f = record { rows = λ b s v e. absurd (none-ne-some v (sym (out b s) ∙ e)); left = λ b s e. (refl, refl) }
     where
       out : (b : Book) (s : SoundBook book b) → summary (admitted_of b) i ≡ none
       out b s = rw f at (a.is b s (standing has b s).0 (standing has b s).1)

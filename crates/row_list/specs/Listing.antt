@@ -1,5 +1,5 @@
 -- What the list of all summary rows promises.
-use Rattle.std.specs.Prelude.{◌≡◌, List, ◌++◌, ℕ, ◌*◌, ◌<◌, ◌≤◌, length, take, drop}
+use Rattle.std.specs.Prelude.{◌≡◌, List, ◌++◌, ℕ, ◌*◌, ◌<◌, ◌≤◌, length, take, drop, Option, Some, None}
 use Rattle.spec.specs.Words.{Rule}
 use Rattle.spec.specs.Summaries.{Summaries}
 use Rattle.spec.specs.Book.{Book, admitted_of}
@@ -7,8 +7,6 @@ use Rattle.spec.specs.BookLayout.{SoundBook}
 use Rattle.spec.specs.Table.{most_rows}
 use Rattle.spec.proofs.Decided.Rows.{all_rows}
 use Rattle.codes.specs.Code.{term_code, codes_of, subgoal_size}
-use Rattle.row_list.specs.declared.RowsListed.{RowsListed}
-use Rattle.row_list.specs.declared.RowsListed.TheVariants.{All, Over}
 
 -- Some sound book, and room for 64 rows of nine codes.
 pub record ListNeeds (book : List ℕ) (area : ℕ) : Type 0 where
@@ -28,9 +26,10 @@ module _ (s : Summaries) (q : Rule ℕ) (before after : List ℕ) where
     pub many : most_rows < length (all_rows s q)
     pub codes : after ≡ codes_of term_code (take most_rows (all_rows s q)) ++ drop (subgoal_size * most_rows) before
 
-  abbrev pub ListedSays : RowsListed → Type 0
-  ListedSays (All n) = AllStand n
-  ListedSays Over = RowsOver
+  -- how many rows there are, or none where there are too many
+  abbrev pub ListedSays : Option ℕ → Type 0
+  ListedSays (Some n) = AllStand n
+  ListedSays None = RowsOver
 
-pub record ListSays (book before after : List ℕ) (r : RowsListed) : Type 0 where
+pub record ListSays (book before after : List ℕ) (r : Option ℕ) : Type 0 where
   pub says : (b : Book) → SoundBook book b → ListedSays (admitted_of b) b.question before after r

@@ -1,5 +1,5 @@
 -- What stands where the rows of one summary are asked for, and what they are.
-use Rattle.std.specs.Prelude.{◌≡◌, List, ℕ, ◌*◌, ◌≤◌, length, replicate}
+use Rattle.std.specs.Prelude.{◌≡◌, List, ℕ, ◌*◌, ◌≤◌, length, replicate, Option}
 use Rattle.spec.specs.Words.{Term, Rule, Safe}
 use Rattle.spec.specs.RuleLayout.{RuleWithin}
 use Rattle.spec.specs.BookLayout.{Arities, question_most}
@@ -7,7 +7,6 @@ use Rattle.spec.specs.Table.{most_rows}
 use Rattle.codes.specs.Code.{term_code, codes_of, subgoal_size}
 use Rattle.summary_rows.specs.RowTask.{onto, TermsOf}
 use Rattle.summary_rows.specs.RowsAfter.{RowsAfter}
-use Rattle.summary_rows.specs.declared.Tally.{Tally}
 use Rattle.row_list.specs.Tasks.{SummaryIs}
 
 -- The target's codes, and a 0 for each: they are all of one row, which is in use.
@@ -32,5 +31,5 @@ pub record SummaryTaskNeeds (relations bytes target own : List ℕ) (found area 
   pub few : found ≤ most_rows
   pub room : subgoal_size * most_rows ≤ area
 
-pub record PlacedRows (relations bytes target own : List ℕ) (number found : ℕ) (before after : List ℕ) (r : Tally) : Type 0 where
+pub record PlacedRows (relations bytes target own : List ℕ) (number found : ℕ) (before after : List ℕ) (r : Option ℕ) : Type 0 where
   pub rows : (v q : Rule ℕ) → SummaryTask relations bytes target own v q → RowsAfter number v q found before after r

@@ -23,10 +23,9 @@ use Rattle.rule_codes.specs.Codes.{tabled}
 use Rattle.rule_codes.specs.Heads.{HeadCodes, HeadBindings}
 use Rattle.rule_codes.specs.Laid.{Laid}
 use Rattle.rule_codes.specs.Promises.{HeadCount}
-use Rattle.rule_codes.specs.Steps.{Many, SomeTerms}
+use Rattle.rule_codes.specs.Steps.{Many, SomeTerms, PaddedCodes}
 use Rattle.rule_codes.specs.Tables.{BaseTable}
 use Rattle.rule_codes.proofs.CodeLaws.{tabled-based, based-term}
-use Rattle.rule_codes.proofs.NineSteps.{TermsStored, eight-end}
 use Rattle.spec.proofs.Lists.Stores.{after_store}
 
 module _ {bytes : List ℕ} {n : ℕ} (count : HeadCount bytes n) where
@@ -36,11 +35,9 @@ module _ {bytes : List ℕ} {n : ℕ} (count : HeadCount bytes n) where
   pub head-there : Laid bytes → SomeTerms bytes 2 n
   head-there w = record { terms = w.rule.head; here = head-many w.layout }
 
-  pub head-end : {table before after : List ℕ} {k : ℕ} → BaseTable variable_tag 32 table → length before ≡ 8 → 8 ≤ k → TermsStored bytes 2 n 0 table before k after → HeadCodes bytes after
-  head-end {table} {before} {after} {k} b h e s = record {
-    is = λ a m r l.
-        eight-end bytes 2 n table before k after h e s r.head (head-many l)
-        ∙ ap (padded 8) (map_same (tabled table) term_code r.head (λ t i. tabled-based b t (l.within.head t i) ∙ based-term t));
+  pub head-coded : {table codes : List ℕ} → BaseTable variable_tag 32 table → PaddedCodes bytes 2 n table codes → HeadCodes bytes codes
+  head-coded {table} b p = record {
+    is = λ a m r l. p.is r.head (head-many l) ∙ ap (padded 8) (map_same (tabled table) term_code r.head (λ t i. tabled-based b t (l.within.head t i) ∙ based-term t));
   }
 
 -- The bindings after i of the head's terms.

@@ -1,9 +1,10 @@
 pub mod CodeLaws
-pub mod Counts
 pub mod HeadSteps
 pub mod InOrderSteps
+pub mod Made
 pub mod NineSteps
 pub mod QuestionTerms
+pub mod RuleLaid
 pub mod SoFar
 pub mod Stores
 pub mod TableSteps

@@ -1,54 +1,36 @@
--- Terms' codes stored one after the other, and the nine codes of a subgoal.
-use mathlib.Core.Path.{◌≡◌, refl, sym, ap, ap₂, ◌∙◌}
+-- The eight codes of terms, and the nine of a subgoal.
+use mathlib.Core.Path.{◌≡◌, sym, ap, ap₂, ◌∙◌}
 use mathlib.Core.List.{List, ◌∷◌, map}
-use Prim.Native.Nat.{ℕ, suc, ◌+◌, ◌<◌, ◌≤◌}
+use Prim.Native.Nat.{ℕ, ◌+◌, ◌-◌, ◌<◌, ◌≤◌}
+use native.Mathlib.Numerals.{add-one}
 use native.Mathlib.Omega.{arith}
-use lib.ListN.{length, get_or, take, set, length-set}
-use lib.Seq.{sets}
+use borrow.Rule.Slice.PartMut.{put_mid}
+use lib.ListN.{length, get_or, set, length-set}
+use lib.Seq.{sets, ext_get_or}
 use Rattle.spec.specs.Words.{Term, Subgoal}
 use Rattle.codes.specs.Code.{padded}
 use Rattle.codes.proofs.Padded.{padded-length, padded-at}
 use Rattle.rule_codes.specs.Codes.{tabled}
-use Rattle.rule_codes.specs.Steps.{Many, GoalAt, PaddedAt, NineAt}
-use Rattle.rule_codes.proofs.Stores.{stores-more, stores-end}
-use Rattle.spec.proofs.Lists.Stores.{stores-whole}
+use Rattle.rule_codes.specs.Steps.{GoalAt, PaddedAt, PaddedCodes, NineAt}
+use Rattle.rule_codes.proofs.Stores.{part-stored}
 
-module _ (bytes : List ℕ) (at many to : ℕ) (table before : List ℕ) where
-  -- The area after k of the eight terms, from `to` on.
-  pub record TermsStored (k : ℕ) (after : List ℕ) : Type 0 where
-    pub long : length after ≡ length before
-    pub is : (ts : List (Term ℕ)) → Many bytes at many ts → after ≡ sets before to (take k (padded 8 (map (tabled table) ts)))
+-- Eight codes of the terms there, each as it is.
+pub padded-whole : {bytes : List ℕ} {at many : ℕ} {table codes : List ℕ} → length codes ≡ 8 → ((k : ℕ) → k < 8 → PaddedAt bytes at many k table (get_or codes k 0)) → PaddedCodes bytes at many table codes
+padded-whole {table = table} {codes} long each = record {
+  is = λ ts m.
+      let all = map (tabled table) ts in
+      ext_get_or 0 codes (padded 8 all) (long ∙ sym (padded-length 8 all)) (λ k h. (each k (omega arith)).is ts m ∙ sym (padded-at 8 all k (omega arith)));
+}
 
-  pub terms-start : TermsStored 0 before
-  terms-start = record { long = refl; is = λ ts h. refl }
-
-  pub terms-go : (k : ℕ) (after : List ℕ) (place code : ℕ) → k < 8 → place ≡ to + k → TermsStored k after → PaddedAt bytes at many k table code → TermsStored (k + 1) (set after place code)
-  terms-go k after place code h q s p = record { long = length-set after place code ∙ s.long; is = is }
-    where
-      is : (ts : List (Term ℕ)) → Many bytes at many ts → set after place code ≡ sets before to (take (k + 1) (padded 8 (map (tabled table) ts)))
-      is ts w =
-          let codes = padded 8 (map (tabled table) ts) in
-          let n : length codes ≡ 8 = padded-length 8 (map (tabled table) ts) in
-          let e : code ≡ get_or codes k 0 = p.is ts w ∙ sym (padded-at 8 (map (tabled table) ts) k h) in
-          let one : k + 1 ≡ suc k = omega arith in
-          ap₂ (λ a j. set a j code) (s.is ts w) q ∙ stores-more before to codes k code (omega arith) e ∙ ap (λ j. sets before to (take j codes)) (sym one)
-
-  pub terms-end : (k : ℕ) (after : List ℕ) → 8 ≤ k → TermsStored k after → (ts : List (Term ℕ)) → Many bytes at many ts → after ≡ sets before to (padded 8 (map (tabled table) ts))
-  terms-end k after h s ts w = s.is ts w ∙ stores-end before to (padded 8 (map (tabled table) ts)) k (let n = padded-length 8 (map (tabled table) ts) in omega arith)
-
--- behind the relation
-pub nine-end : (bytes : List ℕ) (at arity to : ℕ) (table before : List ℕ) (relation k : ℕ) (after : List ℕ) → relation ≡ get_or bytes at 0 → 8 ≤ k
-    → TermsStored bytes (at + 1) arity (to + 1) table (set before to relation) k after → NineAt bytes at arity to table before after
-nine-end bytes at arity to table before relation k after e h s = record { is = is }
+-- The nine codes of a subgoal, stored as its relation and as those of its terms.
+pub nine-stored : {bytes : List ℕ} {at arity : ℕ} {table codes : List ℕ} (to : ℕ) (before : List ℕ) (relation : ℕ) → to + 9 ≤ length before → relation ≡ get_or bytes at 0
+    → PaddedCodes bytes (at + 1) arity table codes → NineAt bytes at arity to table before (put_mid (to + 1) (to + 9 - (to + 1)) (set before to relation) codes)
+nine-stored {bytes} {at} {arity} {table} {codes} to before relation room e p = record { is = is }
   where
-    is : (g : Subgoal (Term ℕ)) → GoalAt bytes at arity g → after ≡ sets before to (g.relation ∷ padded 8 (map (tabled table) g.terms))
+    is : (g : Subgoal (Term ℕ)) → GoalAt bytes at arity g → put_mid (to + 1) (to + 9 - (to + 1)) (set before to relation) codes ≡ sets before to (g.relation ∷ padded 8 (map (tabled table) g.terms))
     is g w =
-        let one : to + 1 ≡ suc to = omega arith in
-        terms-end bytes (at + 1) arity (to + 1) table (set before to relation) k after h s g.terms w.terms
-        ∙ ap₂ (λ r j. sets (set before to r) j (padded 8 (map (tabled table) g.terms))) (e ∙ w.relation) one
-
--- the whole of an area of eight
-pub eight-end : (bytes : List ℕ) (at many : ℕ) (table before : List ℕ) (k : ℕ) (after : List ℕ) → length before ≡ 8 → 8 ≤ k
-    → TermsStored bytes at many 0 table before k after → (ts : List (Term ℕ)) → Many bytes at many ts → after ≡ padded 8 (map (tabled table) ts)
-eight-end bytes at many table before k after l h s ts w =
-    terms-end bytes at many 0 table before k after h s ts w ∙ stores-whole before (padded 8 (map (tabled table) ts)) (padded-length 8 (map (tabled table) ts) ∙ sym l)
+        let same = p.is g.terms w.terms in
+        let long : length codes ≡ to + 9 - (to + 1) = omega (arith, ap length same, padded-length 8 (map (tabled table) g.terms)) in
+        part-stored (set before to relation) (to + 1) (to + 9 - (to + 1)) codes (omega (arith, length-set before to relation)) long
+        ∙ ap₂ (λ r ws. sets (set before to r) (to + 1) ws) (e ∙ w.relation) same
+        ∙ ap (λ j. sets (set before to g.relation) j (padded 8 (map (tabled table) g.terms))) (add-one to)

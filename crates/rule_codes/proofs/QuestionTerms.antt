@@ -13,7 +13,7 @@ use Rattle.codes.proofs.Padded.{codes-length}
 use Rattle.rule_codes.specs.Codes.{tabled}
 use Rattle.rule_codes.specs.InOrder.{TermAmong, InOrder}
 use Rattle.rule_codes.specs.BodyTerms.{CodeOf, BodyTerms}
-use Rattle.rule_codes.specs.Laid.{LaidFor, QuestionLaid}
+use Rattle.rule_codes.specs.Laid.{QuestionLaid}
 use Rattle.rule_codes.specs.Promises.{BodyCodes}
 use Rattle.rule_codes.specs.Tables.{BaseTable}
 use Rattle.rule_codes.proofs.CodeLaws.{tabled-based, based-term, recoded}
@@ -21,10 +21,6 @@ use Rattle.rule_codes.proofs.Stores.{front_length}
 use Rattle.rule_codes.proofs.TermCodes.{SmallSubgoals, terms-among}
 
 module _ {arities bytes : List ℕ} (q : QuestionLaid arities bytes) where
-  -- "question 1 to 12"
-  pub question-room : LaidFor arities bytes 9 108
-  question-room = record { most = 12; rule = q.rule; layout = q.layout; room = let few = q.layout.within.few in omega arith }
-
   small : {most : ℕ} {r : Rule ℕ} → Layout arities most bytes r → SmallSubgoals r.body
   small l = record {
     relation = λ g i. let known = (l.within.fit g i).known in let few = q.known.few in omega arith;

@@ -1,8 +1,9 @@
 -- Codes stored one after the other: into an area from a place on, and at the front of an area.
 use mathlib.Core.Path.{◌≡◌, sym, ap, ap₂, ◌∙◌}
-use mathlib.Core.List.{List, ◌++◌}
+use mathlib.Core.List.{List, ◌++◌, append_assoc}
 use Prim.Native.Nat.{ℕ, suc, ◌+◌, ◌<◌, ◌≤◌}
 use native.Mathlib.Omega.{arith}
+use borrow.Rule.Slice.PartMut.{put_mid}
 use lib.ListN.{length, get_or, take, drop, set, length-append, length-drop}
 use lib.Seq.{sets, sets-eq, take-suc, take_at, take_all, length-take-le, take-append_seam, drop-append-add, drop-drop}
 use Rattle.spec.specs.Given.{at_front}
@@ -17,6 +18,10 @@ module _ (before : List ℕ) (to : ℕ) (codes : List ℕ) where
 
   pub stores-end : (k : ℕ) → length codes ≤ k → sets before to (take k codes) ≡ sets before to codes
   stores-end k h = ap (sets before to) (take_all k codes h)
+
+-- codes copied over a part
+pub part-stored : (all : List ℕ) (i k : ℕ) (codes : List ℕ) → i + k ≤ length all → length codes ≡ k → put_mid i k all codes ≡ sets all i codes
+part-stored all i k codes h e = rw (drop-drop k i all, sym e, sets-eq codes all i (omega arith)) (sym (append_assoc (take i all) codes (drop (i + length codes) all)))
 
 -- more codes at the front
 pub front-more : (front codes all : List ℕ) → length front + length codes ≤ length all → sets (at_front front all) (length front) codes ≡ at_front (front ++ codes) all

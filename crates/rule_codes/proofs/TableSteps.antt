@@ -1,16 +1,14 @@
 -- Tables of the variables' codes, filled step by step.
-use mathlib.Core.Path.{◌≡◌, refl, sym, ap, ap₂, ◌∙◌, subst}
-use mathlib.Core.Bool.{Bool, true, false, cond}
-use mathlib.Core.Logic.{⊎_elim}
+use mathlib.Core.Path.{◌≡◌, sym, ap, ap₂, ◌∙◌, subst}
+use mathlib.Core.Bool.{cond}
 use mathlib.Core.Option.{some}
 use mathlib.Core.List.{List, [], ◌∷◌, map}
 use Prim.Native.Nat.{ℕ, zero, suc, ◌+◌, ◌*◌, ◌-◌, ◌<◌, ◌≤◌}
-use native.Mathlib.Nat.{min-le_right, eq-or-lt_of_le}
+use native.Mathlib.Nat.{min-le_right}
 use native.Mathlib.Omega.{arith}
 use lib.Dec.{eqb}
 use lib.ListN.{length, get_or, drop, set, length-set, length-take, length-map, drop_of_length-le}
 use lib.Seq.{get_or-take}
-use borrow.Author.Tests.{eqb-false, eqb-true}
 use Rattle.spec.specs.Words.{Term, var, con, Rule, DistinctVariables}
 use Rattle.spec.specs.Summaries.{place, replaced}
 use Rattle.spec.specs.Numbers.{number_at}
@@ -19,51 +17,13 @@ use Rattle.spec.proofs.Bytes.Standing.{TermAt}
 use Rattle.spec.proofs.Lists.Places.{nothing, place-some, place-drop}
 use Rattle.spec.proofs.Bytes.RulePlaces.{head-terms}
 use Rattle.spec.proofs.Lists.At.{mapped}
-use Rattle.codes.specs.Code.{variable_tag, constant_tag, term_code}
+use Rattle.codes.specs.Code.{term_code}
 use Rattle.rule_codes.specs.Codes.{based, counted}
 use Rattle.rule_codes.specs.Laid.{UseOf, SomeUse}
 use Rattle.rule_codes.specs.Promises.{HeadCount}
-use Rattle.rule_codes.specs.Tables.{BaseTable, TermCode, OldCode, UseTable}
+use Rattle.rule_codes.specs.Tables.{BaseTable, OldCode, UseTable}
 use Rattle.spec.proofs.Lists.Stores.{after_store}
 use Rattle.spec.proofs.Lists.Counted.{place_in}
-
--- counting from a base on
-module _ (base : ℕ) where
-  pub base-starts : (table : List ℕ) → length table ≡ 32 → BaseTable base 0 table
-  base-starts table h = record { long = h; code = λ x l. absurd (omega arith) }
-
-  pub base_goes : (x : ℕ) (table : List ℕ) → x < 32 → BaseTable base x table → BaseTable base (x + 1) (set table x (base + x))
-  base_goes x table h b = record { long = length-set table x (base + x) ∙ b.long; code = λ y l. after_store table x (base + x) y (let n = b.long in omega arith) ∙ go y l (eqb x y) refl }
-    where
-      go : (y : ℕ) → y < x + 1 → (t : Bool) → eqb x y ≡ t → cond t (base + x) (get_or table y 0) ≡ base + y
-      go y l true e = ap (λ z. base + z) (eqb-true x y e)
-      go y l false e = b.code y (⊎_elim (λ q. absurd (eqb-false x y e (sym q))) (λ less. less) (eq-or-lt_of_le (let h : y ≤ x = omega arith in h)))
-
-  pub base-ends : (x : ℕ) (table : List ℕ) → 32 ≤ x → BaseTable base x table → BaseTable base 32 table
-  base-ends x table h b = record { long = b.long; code = λ y l. b.code y (omega arith) }
-
--- a term's code from one base to another
-module _ (olds code : ℕ) where
-  pub old-variable : code < constant_tag → OldCode olds code (code - variable_tag + olds)
-  old-variable h = record { is = is }
-    where
-      is : (t : Term ℕ) → TermWithin t → code ≡ term_code t → code - variable_tag + olds ≡ based olds t
-      is (var x) w e = omega arith
-      is (con c) w e = absurd (omega arith)
-
-  pub old-constant : constant_tag ≤ code → OldCode olds code code
-  old-constant h = record { is = is }
-    where
-      is : (t : Term ℕ) → TermWithin t → code ≡ term_code t → code ≡ based olds t
-      is (var x) w e = absurd (omega arith)
-      is (con c) w e = e
-
-  pub above_tag : TermCode code → variable_tag ≤ code
-  above_tag w = go w.term w.is
-    where
-      go : (t : Term ℕ) → code ≡ term_code t → variable_tag ≤ code
-      go (var x) e = omega arith
-      go (con c) e = omega arith
 
 -- a head of distinct variables has a variable at each place
 variable-there : (head : List (Term ℕ)) → DistinctVariables head → (i : ℕ) (t : Term ℕ) → place head (suc i) ≡ some t → (x : ℕ) × (t ≡ var x)

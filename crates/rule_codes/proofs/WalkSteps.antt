@@ -1,70 +1,43 @@
--- The turns of a walk over a rule's subgoals: what each stores, as a width or as nine codes.
-use mathlib.Core.Path.{◌≡◌, refl, sym, ap₂}
+-- The turns of a walk over a rule's subgoals: what each reads as a width, or stores as nine codes.
+use mathlib.Core.Path.{◌≡◌, refl, sym, ◌∙◌}
+use mathlib.Core.Option.{some}
 use mathlib.Core.List.{List}
-use Prim.Native.Nat.{ℕ, ◌+◌, ◌*◌, ◌<◌, ◌≤◌}
-use native.Mathlib.Nat.{mul-le-mul_left}
+use Prim.Native.Nat.{ℕ, suc, ◌*◌, ◌<◌}
 use native.Mathlib.Omega.{arith}
-use lib.ListN.{length, get_or, set}
-use Rattle.spec.specs.Words.{Rule}
+use lib.ListN.{length, get_or}
+use lib.Seq.{sets}
+use Rattle.spec.specs.Words.{Term, Subgoal, Rule}
+use Rattle.spec.specs.Summaries.{place}
 use Rattle.spec.specs.RuleLayout.{Layout}
+use Rattle.codes.specs.Code.{subgoal_codes}
 use Rattle.rule_codes.specs.Codes.{tabled}
-use Rattle.rule_codes.specs.Laid.{LaidFor}
-use Rattle.rule_codes.specs.Promises.{HeadCount, GoalCount, BodyCodes, BodyWidths}
-use Rattle.rule_codes.specs.Steps.{SomeGoal, NineAt}
-use Rattle.rule_codes.proofs.Walks.{WalkedTo, NextSubgoal, next-goal}
-use Rattle.rule_codes.proofs.SoFar.{Writing, SubgoalStored, SubgoalsWritten, so-long, so-ends, as_widths, by_table}
+use Rattle.rule_codes.specs.Laid.{LaidOver}
+use Rattle.rule_codes.specs.Promises.{GoalCount}
+use Rattle.rule_codes.specs.Steps.{SomeGoal, NineAt, WalkedTo}
+use Rattle.rule_codes.proofs.RuleLaid.{goals-counted}
+use Rattle.rule_codes.proofs.Walks.{NextSubgoal, next-goal}
 
--- "a head (0 to 8 terms)"
-pub heads-few : {arities bytes : List ℕ} {each area n : ℕ} → LaidFor arities bytes each area → HeadCount bytes n → n ≤ 8
-heads-few {arities} w h = let same = h.is arities w.most w.rule w.layout in let short = w.layout.within.short in omega arith
+module _ {arities bytes : List ℕ} {n : ℕ} (w : LaidOver arities bytes) where
+  pub goals-there : GoalCount bytes n → n ≡ get_or bytes 1 0
+  goals-there h = h.is arities w.most w.rule w.layout ∙ sym (goals-counted w.layout)
 
-module _ {arities bytes : List ℕ} {each area n i at : ℕ} (w : LaidFor arities bytes each area) (count : GoalCount bytes n) (turn : i < n) (ahead : WalkedTo arities bytes i at) where
-  -- the relation is there, and known
-  pub relation-there : (at < length bytes) × (get_or bytes at 0 < length arities)
-  relation-there =
-      let g = next-goal count turn ahead (get_or arities (get_or bytes at 0) 0) w.most w.rule w.layout refl in
-      (omega (arith, g.ends), g.known)
+  module _ {i at : ℕ} (count : GoalCount bytes n) (turn : i < n) (ahead : WalkedTo arities bytes i at) where
+    -- the relation is there, and known
+    pub relation-there : (at < length bytes) × (get_or bytes at 0 < length arities)
+    relation-there =
+        let g = next-goal count turn ahead (get_or arities (get_or bytes at 0) 0) w.most w.rule w.layout refl in
+        (omega (arith, g.ends), g.known)
 
-  -- there is room for one more
-  pub room-there : each * (i + 1) ≤ area
-  room-there =
-      let same = count.is arities w.most w.rule w.layout in
-      let less : i + 1 ≤ length w.rule.body = omega arith in
-      let some = mul-le-mul_left each less in
-      let all = w.room in
-      omega arith
+    module _ {arity : ℕ} (e : arity ≡ get_or arities (get_or bytes at 0) 0) where
+      pub next-there : NextSubgoal arities bytes w.rule i at arity
+      next-there = next-goal count turn ahead arity w.most w.rule w.layout e
 
-  module _ {arity : ℕ} (e : arity ≡ get_or arities (get_or bytes at 0) 0) where
-    pub next-there : NextSubgoal arities bytes w.rule i at arity
-    next-there = next-goal count turn ahead arity w.most w.rule w.layout e
+      pub goal-there : SomeGoal bytes at arity
+      goal-there = record { goal = next-there.goal; here = next-there.here }
 
-    pub goal-there : SomeGoal bytes at arity
-    goal-there = record { goal = next-there.goal; here = next-there.here }
+      pub width-there : (most : ℕ) (r : Rule ℕ) → Layout arities most bytes r → (g : Subgoal (Term ℕ)) × (place r.body (suc i) ≡ some g) × (arity ≡ length g.terms)
+      width-there most r l = let g = next-goal count turn ahead arity most r l e in (g.goal, g.place, sym g.here.terms.long)
 
-    pub width-stored : (widths : List ℕ) (most : ℕ) (r : Rule ℕ) → Layout arities most bytes r → SubgoalStored as_widths i widths (set widths i arity) r
-    width-stored widths most r l =
-        let g = next-goal count turn ahead arity most r l e in
-        let once : i ≡ 1 * i = omega arith in
-        record { goal = g.goal; place = g.place; stored = ap₂ (set widths) once (sym g.here.terms.long) }
-
-    pub codes-stored : (table out out' : List ℕ) → NineAt bytes at arity (9 * i) table out out' → (most : ℕ) (r : Rule ℕ) → Layout arities most bytes r → SubgoalStored (by_table table) i out out' r
-    codes-stored table out out' s most r l =
-        let g = next-goal count turn ahead arity most r l e in
-        record { goal = g.goal; place = g.place; stored = s.is g.goal g.here }
-
-module _ {arities bytes before after : List ℕ} {n i : ℕ} (count : GoalCount bytes n) where
-  -- the area keeps its length
-  pub walk-long : (a : Writing) → LaidFor arities bytes a.size (length before) → i ≤ n → SubgoalsWritten a arities bytes before i after → length after ≡ length before
-  walk-long a w h s = so-long a arities bytes before w i after s (let same = count.is arities w.most w.rule w.layout in omega arith)
-
-  pub widths-end : n ≤ i → SubgoalsWritten as_widths arities bytes before i after → BodyWidths arities bytes before after n
-  widths-end h s = record {
-    count = λ m r l. count.is arities m r l;
-    widths = λ m r l. so-ends as_widths arities bytes before i after s m r l (let same = count.is arities m r l in omega arith);
-  }
-
-  pub codes-end : (table : List ℕ) → n ≤ i → SubgoalsWritten (by_table table) arities bytes before i after → BodyCodes arities bytes (tabled table) before after n
-  codes-end table h s = record {
-    count = λ m r l. count.is arities m r l;
-    codes = λ m r l. so-ends (by_table table) arities bytes before i after s m r l (let same = count.is arities m r l in omega arith);
-  }
+      pub codes-there : {table out out' : List ℕ} → NineAt bytes at arity (9 * i) table out out'
+          → (most : ℕ) (r : Rule ℕ) → Layout arities most bytes r → (g : Subgoal (Term ℕ)) × (place r.body (suc i) ≡ some g) × (out' ≡ sets out (9 * i) (subgoal_codes (tabled table) g))
+      codes-there s most r l = let g = next-goal count turn ahead arity most r l e in (g.goal, g.place, s.is g.goal g.here)

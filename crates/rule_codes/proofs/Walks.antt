@@ -12,19 +12,17 @@ use Rattle.spec.proofs.Bytes.Standing.{TermsAt}
 use Rattle.spec.proofs.Lists.Places.{place-some}
 use Rattle.spec.proofs.Bytes.RulePlaces.{goal_start, first-start, next_start, start-bound, goal-relation, goal-terms}
 use Rattle.spec.proofs.Lists.Counted.{place_in}
-use Rattle.rule_codes.specs.Laid.{Laid, LaidFor}
+use Rattle.rule_codes.specs.Laid.{Laid}
 use Rattle.rule_codes.specs.Promises.{HeadCount, GoalCount}
-use Rattle.rule_codes.specs.Steps.{GoalAt}
+use Rattle.rule_codes.specs.Steps.{GoalAt, WalkedTo}
 
-pub laid : {arities bytes : List ℕ} {each area : ℕ} → LaidFor arities bytes each area → Laid bytes
-laid {arities} w = record { arities = arities; most = w.most; rule = w.rule; layout = w.layout }
+module _ {bytes : List ℕ} {n : ℕ} (h : HeadCount bytes n) where
+  pub walk-starts : (arities : List ℕ) → WalkedTo arities bytes 0 (2 + 5 * n)
+  walk-starts arities = record { is = λ m r l. ap (λ k. 2 + 5 * k) (h.is arities m r l) ∙ sym (first-start l) }
 
--- i subgoals are behind, and `at` is where the next one begins.
-pub record WalkedTo (arities bytes : List ℕ) (i at : ℕ) : Type 0 where
-  pub is : (most : ℕ) (r : Rule ℕ) → Layout arities most bytes r → at ≡ goal_start r i
-
-pub walk-starts : {arities bytes : List ℕ} {n : ℕ} → HeadCount bytes n → WalkedTo arities bytes 0 (2 + 5 * n)
-walk-starts {arities} h = record { is = λ m r l. ap (λ k. 2 + 5 * k) (h.is arities m r l) ∙ sym (first-start l) }
+  -- "a head (0 to 8 terms)"
+  pub heads-few : Laid bytes → n ≤ 8
+  heads-few w = let same = h.is w.arities w.most w.rule w.layout in let short = w.layout.within.short in omega arith
 
 -- The next subgoal of a rule.
 pub record NextSubgoal (arities bytes : List ℕ) (r : Rule ℕ) (i at arity : ℕ) : Type 0 where

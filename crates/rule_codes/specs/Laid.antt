@@ -1,9 +1,9 @@
 -- What the builders ask of the bytes that they are lent: that they are the layout of some rule, as those of an accepted entry are.
-use Rattle.std.specs.Prelude.{◌≡◌, List, map, ℕ, ◌*◌, ◌≤◌, length, take}
+use Rattle.std.specs.Prelude.{◌≡◌, List, map, ℕ, length, take}
 use Rattle.spec.specs.Words.{Term, Rule, DistinctVariables}
 use Rattle.spec.specs.BookLayout.{Arities, question_most}
 use Rattle.spec.specs.RuleLayout.{TermsWithin, Layout}
-use Rattle.codes.specs.Code.{term_code, subgoal_size}
+use Rattle.codes.specs.Code.{term_code}
 
 -- A rule over some relations.
 pub record Laid (bytes : List ℕ) : Type 0 where
@@ -12,12 +12,11 @@ pub record Laid (bytes : List ℕ) : Type 0 where
   pub rule : Rule ℕ
   pub layout : Layout arities most bytes rule
 
--- A rule over these relations, and room in an area for so many codes a subgoal.
-pub record LaidFor (arities bytes : List ℕ) (each area : ℕ) : Type 0 where
+-- A rule over these relations.
+pub record LaidOver (arities bytes : List ℕ) : Type 0 where
   pub most : ℕ
   pub rule : Rule ℕ
   pub layout : Layout arities most bytes rule
-  pub room : each * length rule.body ≤ area
 
 -- A question over these relations.
 pub record QuestionLaid (arities bytes : List ℕ) : Type 0 where
@@ -41,9 +40,8 @@ pub record SomeUse (bytes row : List ℕ) : Type 0 where
   pub terms : List (Term ℕ)
   pub is : UseOf arities bytes row rule terms
 
--- Some use over these relations, and room in an area for its nine codes a subgoal.
-pub record UseFor (arities bytes row : List ℕ) (area : ℕ) : Type 0 where
+-- Some use over these relations.
+pub record UseOver (arities bytes row : List ℕ) : Type 0 where
   pub rule : Rule ℕ
   pub terms : List (Term ℕ)
   pub is : UseOf arities bytes row rule terms
-  pub room : subgoal_size * length rule.body ≤ area

@@ -1,3 +1,4 @@
+pub mod Bodies
 pub mod BodyTerms
 pub mod Codes
 pub mod Heads

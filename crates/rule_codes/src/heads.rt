@@ -2,9 +2,9 @@
 ghost use Rattle.rule_codes.specs.Heads.{HeadCodes, HeadBindings};
 ghost use Rattle.rule_codes.specs.Laid.{Laid};
 
-use crate::places::{head_count, padded_at};
+use crate::places::{head_count, padded_codes};
 use crate::tables::base_table;
-use codes::{NONE, SLOTS, VARIABLE};
+use codes::{SLOTS, VARIABLE};
 use spec::MOST_HEAD;
 
 // The codes of the head's terms, and NONE where they have ended.
@@ -12,15 +12,7 @@ pub fn head_codes(body: &[u8]) -> [u64; MOST_HEAD]
     requires { Laid body.now }
     ensures { HeadCodes body.now result }
 {
-    let heads = head_count(body);
-    let table = base_table(VARIABLE);
-    let mut codes = [NONE; MOST_HEAD];
-    let mut k: usize = 0;
-    while k < MOST_HEAD {
-        codes[k] = padded_at(body, 2, heads, k, &table);
-        k += 1;
-    }
-    codes
+    padded_codes(body, 2, head_count(body), &base_table(VARIABLE))
 }
 
 // "head to head place by place": both witnesses begin with each head variable bound to its own code, and nothing else.
@@ -28,12 +20,9 @@ pub fn head_bindings(body: &[u8]) -> [u64; SLOTS]
     requires { Laid body.now }
     ensures { HeadBindings body.now result }
 {
-    let heads = head_count(body);
     let mut bound = [0u64; SLOTS];
-    let mut next: usize = 0;
-    while next < heads {
-        let at = 2 + 5 * next;
-        next += 1;
+    for k in 0..head_count(body) {
+        let at = 2 + 5 * k;
         if body[at] == 0 {
             let x = numbers::u32_at(body, at + 1);
             bound[x as usize] = VARIABLE + x as u64;

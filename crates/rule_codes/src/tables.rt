@@ -12,13 +12,7 @@ pub fn base_table(base: u64) -> [u64; VARIABLES]
     requires { Base base }
     ensures { BaseTable base 32 result }
 {
-    let mut table = [0u64; VARIABLES];
-    let mut x: usize = 0;
-    while x < VARIABLES {
-        table[x] = base + x as u64;
-        x += 1;
-    }
-    table
+    std::array::from_fn(|x| base + x as u64)
 }
 
 // A term's code where variables count from another base.
@@ -38,9 +32,7 @@ pub fn use_table(body: &[u8], row: &[u64], olds: u64, base: u64) -> [u64; VARIAB
     ensures { UseTable body.now row.now olds base result }
 {
     let mut table = base_table(base);
-    let mut i = head_count(body);
-    while 0 < i {
-        i -= 1;
+    for i in (0..head_count(body)).rev() {
         let x = numbers::u32_at(body, 3 + 5 * i) as usize;
         table[x] = old_code(row[i], olds);
     }

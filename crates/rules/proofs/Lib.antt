@@ -1,5 +1,4 @@
 pub mod GoalSteps
-pub mod Marking
 pub mod Meaning
 pub mod RuleSteps
 pub mod Runs

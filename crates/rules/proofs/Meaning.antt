@@ -5,7 +5,6 @@ use mathlib.Core.Bool.{Bool, true, false, ◌&&◌, not}
 use mathlib.Core.List.Memᴰ
 use mathlib.Core.List.{List, [], ◌∷◌}
 use Prim.Native.Nat.{ℕ}
-use native.Mathlib.Omega.{arith}
 use Rattle.spec.specs.Words.{◌∈◌, Term, var, con, Subgoal, Rule, Safe, DistinctVariables}
 use Rattle.bits.specs.Sets.{Has, has, with}
 use Rattle.bits.proofs.Laws.{has-none, has-true, true-has, with-new, with-old, with_cases}
@@ -80,7 +79,7 @@ record Plain (m : Marks) (ts : List (Term ℕ)) : Type 0 where
   new : (x : ℕ) → var x ∈ ts → Has m.vars x → ⊥
 
 not-has : (set x : ℕ) → has set x ≡ false → Has set x → ⊥
-not-has set x e h = let t = true-has set x h in let z : ◌≡◌ {A = ℕ} 0 1 = cc in omega arith
+not-has set x e h = let t = true-has set x h in cc
 
 has-false : (set x : ℕ) → (Has set x → ⊥) → has set x ≡ false
 has-false set x n = go (has set x) refl
@@ -92,7 +91,7 @@ has-false set x n = go (has set x) refl
 plain-from : (ts : List (Term ℕ)) (m : Marks) → (marks m ts).plain ≡ true → Plain m ts
 unfolding mark
 plain-from [] m e = record { so_far = e; distinct = tt; new = λ x i. absurd (Memᴰ.not-nil i) }
-plain-from (con c ∷ ts) m e = absurd (let p = (plain-from ts (mark m (con c)) e).so_far in let z : ◌≡◌ {A = ℕ} 0 1 = cc in omega arith)
+plain-from (con c ∷ ts) m e = let p = (plain-from ts (mark m (con c)) e).so_far in cc
 plain-from (var v ∷ ts) m e = by (plain-from ts (mark m (var v)) e)
   where
     by : Plain (mark m (var v)) ts → Plain m (var v ∷ ts)

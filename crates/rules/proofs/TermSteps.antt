@@ -9,14 +9,15 @@ use lib.ListN.{length, get_or, drop, drop_of_length-le}
 use lib.Seq.{drop-cons}
 use lib.Dec.{eqb}
 use borrow.Author.Tests.{eqb-false, eq-eqb, ne_eqb, lt-ltb, le-ltb}
+use Rattle.std.specs.Prelude.{Result, Ok, Err}
 use Rattle.spec.specs.Words.{Term, var, con}
 use Rattle.spec.specs.Numbers.{number_at}
 use Rattle.spec.proofs.Bytes.RuleReading.{Read, got, bad, bad_tag, bad_variable, early, and_then, as_variable, as_constant, read_number, read_tagged, read_term}
 use Rattle.spec.proofs.Bytes.NumberLaws.{read-number-at, read-number-cut}
 use Rattle.rules.specs.declared.subgoals.Fault.TheVariants.{Tag, Variable, Early}
 use Rattle.rules.specs.declared.subgoals.Marks.{Marks}
-use Rattle.rules.specs.declared.subgoals.Step.{Step}
-use Rattle.rules.specs.declared.subgoals.Step.TheVariants.{Next, Bad}
+use Rattle.rules.specs.declared.subgoals.Fault.{Fault}
+use Rattle.rules.specs.declared.subgoals.Front.{Front}
 use Rattle.rules.specs.Marked.{stepped}
 use Rattle.spec.proofs.Lists.Parts.{place-left}
 
@@ -26,56 +27,54 @@ small (suc zero) h f g = g refl
 small (suc (suc n)) h f g = omega arith
 
 module _ (noted : Term ℕ → Marks) (s : List ℕ) (at : ℕ) where
-  abbrev answer : Step
+  abbrev answer : Result Front Fault
   answer = stepped noted (length s) (read_term (drop at s))
 
-  abbrev tag : ℕ
-  tag = get_or s at 0
-
-  pub at-end : length s ≤ at → Bad Early ≡ answer
+  pub at-end : length s ≤ at → Err Early ≡ answer
   unfolding stepped
   at-end h = rw (drop_of_length-le s h)
 
-  tagged : at < length s → read_term (drop at s) ≡ read_tagged tag (drop (at + 1) s)
-  tagged h = ap read_term (drop-cons s at 0 h) ∙ ap (λ p. read_tagged tag (drop p s)) (sym (add-one at))
+  module _ (tag : ℕ) (here : (at < length s) × ((d : ℕ) → tag ≡ get_or s at d)) where
+    tagged : read_term (drop at s) ≡ read_tagged tag (drop (at + 1) s)
+    tagged = ap read_term (drop-cons s at 0 here.0) ∙ ap₂ (λ t p. read_tagged t (drop p s)) (sym (here.1 0)) (sym (add-one at))
 
-  answered : at < length s → (z : Read (Term ℕ)) → read_tagged tag (drop (at + 1) s) ≡ z → stepped noted (length s) z ≡ answer
-  answered h z e = ap (stepped noted (length s)) (sym (tagged h ∙ e))
+    answered : (z : Read (Term ℕ)) → read_tagged tag (drop (at + 1) s) ≡ z → stepped noted (length s) z ≡ answer
+    answered z e = ap (stepped noted (length s)) (sym (tagged ∙ e))
 
-  pub bad-tag : at < length s → 1 < tag → Bad Tag ≡ answer
-  unfolding stepped
-  bad-tag h t = answered h (bad bad_tag) (rw (ne_eqb tag 0 (λ e. omega arith), ne_eqb tag 1 (λ e. omega arith)))
-
-  pub cut : at < length s → tag ≤ 1 → length s - at < 5 → Bad Early ≡ answer
-  unfolding stepped
-  cut h t l = answered h (bad early) (by (eqb tag 0) (eqb tag 1) refl refl)
-    where
-      short : read_number 4 (drop (at + 1) s) ≡ bad early
-      short = read-number-cut 4 s (at + 1) (omega arith) (omega arith)
-
-      by : (a b : Bool) → eqb tag 0 ≡ a → eqb tag 1 ≡ b
-          → cond a (and_then (read_number 4 (drop (at + 1) s)) as_variable) (cond b (and_then (read_number 4 (drop (at + 1) s)) as_constant) (bad bad_tag)) ≡ bad early
-      by true b p q = ap (λ r. and_then r as_variable) short
-      by false true p q = ap (λ r. and_then r as_constant) short
-      by false false p q = let f = eqb-false tag 0 p in let g = eqb-false tag 1 q in absurd (small tag t f g)
-
-  module _ (n : ℕ) (h : at < length s) (room : 5 ≤ length s - at) (e : n ≡ number_at 4 s (at + 1)) where
-    number : read_number 4 (drop (at + 1) s) ≡ got n (drop (at + 5) s)
-    number = let p : at + 1 + 4 ≡ at + 5 = omega arith in read-number-at 4 s (at + 1) (omega arith) ∙ ap₂ got (sym e) (ap (λ p. drop p s) p)
-
-    placed : (t : Term ℕ) → read_tagged tag (drop (at + 1) s) ≡ got t (drop (at + 5) s) → Next (at + 5) (noted t) ≡ answer
+    pub bad-tag : 1 < tag → Err Tag ≡ answer
     unfolding stepped
-    placed t p = ap (λ q. Next q (noted t)) (sym (place-left s (at + 5) (omega arith))) ∙ answered h (got t (drop (at + 5) s)) p
+    bad-tag t = answered (bad bad_tag) (rw (ne_eqb tag 0 (λ e. omega arith), ne_eqb tag 1 (λ e. omega arith)))
 
-    pub constant : tag ≡ 1 → Next (at + 5) (noted (con n)) ≡ answer
-    constant t = placed (con n) (rw (ne_eqb tag 0 (λ z. omega arith), eq-eqb tag 1 t) (ap (λ r. and_then r as_constant) number))
-
-    variable-read : tag ≡ 0 → read_tagged tag (drop (at + 1) s) ≡ as_variable n (drop (at + 5) s)
-    variable-read t = rw (eq-eqb tag 0 t) (ap (λ r. and_then r as_variable) number)
-
-    pub variable : tag ≡ 0 → n < 32 → Next (at + 5) (noted (var n)) ≡ answer
-    variable t l = placed (var n) (variable-read t ∙ rw (lt-ltb n 32 l))
-
-    pub bad-variable : tag ≡ 0 → 32 ≤ n → Bad Variable ≡ answer
+    pub cut : tag ≤ 1 → length s - at < 5 → Err Early ≡ answer
     unfolding stepped
-    bad-variable t l = answered h (bad bad_variable) (variable-read t ∙ rw (le-ltb n 32 l))
+    cut t l = answered (bad early) (by (eqb tag 0) (eqb tag 1) refl refl)
+      where
+        short : read_number 4 (drop (at + 1) s) ≡ bad early
+        short = let h = here.0 in read-number-cut 4 s (at + 1) (omega arith) (omega arith)
+
+        by : (a b : Bool) → eqb tag 0 ≡ a → eqb tag 1 ≡ b
+            → cond a (and_then (read_number 4 (drop (at + 1) s)) as_variable) (cond b (and_then (read_number 4 (drop (at + 1) s)) as_constant) (bad bad_tag)) ≡ bad early
+        by true b p q = ap (λ r. and_then r as_variable) short
+        by false true p q = ap (λ r. and_then r as_constant) short
+        by false false p q = let f = eqb-false tag 0 p in let g = eqb-false tag 1 q in absurd (small tag t f g)
+
+    module _ (n : ℕ) (room : 5 ≤ length s - at) (e : n ≡ number_at 4 s (at + 1)) where
+      number : read_number 4 (drop (at + 1) s) ≡ got n (drop (at + 5) s)
+      number = let p : at + 1 + 4 ≡ at + 5 = omega arith in read-number-at 4 s (at + 1) (omega arith) ∙ ap₂ got (sym e) (ap (λ p. drop p s) p)
+
+      placed : (t : Term ℕ) → read_tagged tag (drop (at + 1) s) ≡ got t (drop (at + 5) s) → Ok (record { at = at + 5; notes = noted t }) ≡ answer
+      unfolding stepped
+      placed t p = ap (λ q. Ok (record { at = q; notes = noted t })) (sym (place-left s (at + 5) (omega arith))) ∙ answered (got t (drop (at + 5) s)) p
+
+      pub constant : tag ≡ 1 → Ok (record { at = at + 5; notes = noted (con n) }) ≡ answer
+      constant t = placed (con n) (rw (ne_eqb tag 0 (λ z. omega arith), eq-eqb tag 1 t) (ap (λ r. and_then r as_constant) number))
+
+      variable-read : tag ≡ 0 → read_tagged tag (drop (at + 1) s) ≡ as_variable n (drop (at + 5) s)
+      variable-read t = rw (eq-eqb tag 0 t) (ap (λ r. and_then r as_variable) number)
+
+      pub variable : tag ≡ 0 → n < 32 → Ok (record { at = at + 5; notes = noted (var n) }) ≡ answer
+      variable t l = placed (var n) (variable-read t ∙ rw (lt-ltb n 32 l))
+
+      pub bad-variable : tag ≡ 0 → 32 ≤ n → Err Variable ≡ answer
+      unfolding stepped
+      bad-variable t l = answered (bad bad_variable) (variable-read t ∙ rw (le-ltb n 32 l))

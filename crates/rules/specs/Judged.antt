@@ -1,13 +1,13 @@
 -- What is said of a rule's bytes: each case of the verdict, with the paper's number.
-use Rattle.std.specs.Prelude.{◌≡◌, Bool, true, List, ℕ}
+use Rattle.std.specs.Prelude.{◌≡◌, Bool, true, List, ℕ, Result, Ok, Err}
 use Rattle.spec.specs.Words.{Rule, Safe, DistinctVariables}
 use Rattle.spec.specs.RuleLayout.{Layout}
 use Rattle.spec.proofs.Bytes.RuleReading.{bad, read_rule}
 use Rattle.spec.proofs.Bytes.RuleReading as reading
 use Rattle.rules.specs.declared.subgoals.Fault.{Fault}
 use Rattle.rules.specs.declared.subgoals.Fault.TheVariants.{Count, Relation, Tag, Variable, Early, Over}
-use Rattle.rules.specs.declared.Verdict.{Verdict}
-use Rattle.rules.specs.declared.Verdict.TheVariants.{Sound, Broken, Unsafe, Repeats}
+use Rattle.rules.specs.declared.Defect.{Defect}
+use Rattle.rules.specs.declared.Defect.TheVariants.{Broken, Unsafe, Repeats}
 
 -- "a rule breaks its layout: ends early, bytes over, a count, relation, tag or variable out of range"
 abbrev pub fault_says : Fault → reading.Fault
@@ -27,9 +27,8 @@ fault_number Variable = 6
 fault_number Early = 6
 fault_number Over = 6
 
--- The paper's number for each verdict; a sound rule has none, told as 0.
-abbrev pub refusal_number : Verdict → ℕ
-refusal_number Sound = 0
+-- The paper's number for each defect; a sound rule has none.
+abbrev pub refusal_number : Defect → ℕ
 refusal_number (Broken f) = fault_number f
 refusal_number Unsafe = 7
 refusal_number Repeats = 8
@@ -61,8 +60,8 @@ module _ (arities : List ℕ) (most : ℕ) (summary : Bool) (bytes : List ℕ) w
     pub safe : Safe rule
     pub not_plain : DistinctVariables rule.head → ⊥
 
-  abbrev pub Judged : Verdict → Type 0
-  Judged Sound = IsSound
-  Judged (Broken f) = IsBroken f
-  Judged Unsafe = IsUnsafe
-  Judged Repeats = IsRepeating
+  abbrev pub Judged : Result Unit Defect → Type 0
+  Judged (Ok _) = IsSound
+  Judged (Err (Broken f)) = IsBroken f
+  Judged (Err Unsafe) = IsUnsafe
+  Judged (Err Repeats) = IsRepeating

@@ -1,5 +1,5 @@
 -- What the reader notes of terms on the way, and how a reading from the front becomes a step's answer.
-use Rattle.std.specs.Prelude.{true, false, ◌&&◌, not, List, [], ◌∷◌, ℕ, ◌-◌, length}
+use Rattle.std.specs.Prelude.{◌≡◌, true, false, ◌&&◌, not, List, [], ◌∷◌, ℕ, zero, suc, ◌-◌, length, Result, Ok, Err, MatchResult}
 use Rattle.spec.specs.Words.{Term, var, con, Subgoal}
 use Rattle.spec.proofs.Bytes.RuleReading.{Read, got, bad}
 use Rattle.spec.proofs.Bytes.RuleReading as reading
@@ -7,13 +7,14 @@ use Rattle.bits.specs.Sets.{with, has}
 use Rattle.rules.specs.declared.subgoals.Fault.{Fault}
 use Rattle.rules.specs.declared.subgoals.Fault.TheVariants.{Count, Relation, Tag, Variable, Early, Over}
 use Rattle.rules.specs.declared.subgoals.Marks.{Marks}
-use Rattle.rules.specs.declared.subgoals.Step.{Step}
-use Rattle.rules.specs.declared.subgoals.Step.TheVariants.{Next}
-use Rattle.rules.specs.declared.subgoals.Step.TheVariants as step
+use Rattle.rules.specs.declared.subgoals.Front.{Front}
 
 -- nothing noted yet
 abbrev pub none : Marks
 none = record { vars = 0; plain = true }
+
+abbrev pub fresh : ℕ → Front
+fresh place = record { at = place; notes = none }
 
 -- a variable is noted; terms are plain while each is a variable not noted before
 unfoldable pub mark : Marks → Term ℕ → Marks
@@ -41,6 +42,11 @@ fault_of reading.early = Early
 fault_of reading.over = Over
 
 -- a reading of a body of n bytes, as a step's answer
-unfoldable pub stepped : {A : Type 0} → (A → Marks) → ℕ → Read A → Step
-stepped noted n (got a rest) = Next (n - length rest) (noted a)
-stepped noted n (bad f) = step.Bad (fault_of f)
+unfoldable pub stepped : {A : Type 0} → (A → Marks) → ℕ → Read A → Result Front Fault
+stepped noted n (got a rest) = Ok (record { at = n - length rest; notes = noted a })
+stepped noted n (bad f) = Err (fault_of f)
+
+-- so many steps one after the other, each from where the one before it ended; the first fault ends them
+abbrev pub Repeated : (Front → Result Front Fault → Type 0) → ℕ → Front → Result Front Fault → Type 0
+Repeated Steps zero from r = r ≡ Ok from
+Repeated Steps (suc k) from r = (s : Result Front Fault) × Steps from s × MatchResult s (λ next. Repeated Steps k next r) (λ f. r ≡ Err f)

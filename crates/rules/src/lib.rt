@@ -3,116 +3,79 @@
 
 ghost use Rattle.std.specs.Prelude.{◌≡◌};
 ghost use Rattle.spec.proofs.Bytes.RuleReading.{read_rule};
-ghost use Rattle.rules.specs.Marked.{none};
-ghost use Rattle.rules.specs.Wholes.{stopped_by, whole_of, broken_by};
+ghost use Rattle.rules.specs.Wholes.{whole_of};
 ghost use Rattle.rules.specs.Judged.{Judged};
 
 mod subgoals; // terms and subgoals, read from the front
 
+// a defect tells the fault, so those who ask for one find it here
 pub use crate::subgoals::Fault;
-use crate::subgoals::{Marks, Step, read_subgoals, read_terms};
-use numbers::wide;
+use crate::subgoals::{Front, Marks, read_subgoals, read_terms};
 use spec::MOST_HEAD;
 
-// a verdict tells the fault, so those who ask for one find it here
-
-// A whole rule: the notes of its head and of its body.
+// What was noted of a whole rule.
 #[derive(Clone, Copy)]
-pub enum Whole {
-    Rule(Marks, Marks),
-    Bad(Fault),
+struct Notes {
+    head: Marks,
+    body: Marks,
 }
 
-// What is to be said of a rule.
+// Why a rule is not sound.
 #[derive(Clone, Copy)]
-pub enum Verdict {
-    Sound,
+pub enum Defect {
     Broken(Fault),
     Unsafe,
     Repeats,
 }
 
-// Nothing noted yet.
-fn unnoted() -> Marks
-    ensures { result ≡ none }
-{
-    Marks {
-        vars: 0,
-        plain: true,
-    }
-}
-
-// A step's fault as the whole rule's.
-fn stopped(step: Step) -> Whole
-    ensures { result ≡ stopped_by step }
-{
-    match step {
-        Step::Next(_, m) => Whole::Rule(m, m),
-        Step::Bad(f) => Whole::Bad(f),
-    }
-}
-
 // A whole rule of at most `most` subgoals: two counts, the head's terms, the subgoals, and nothing over.
-fn read_rule(body: &[u8], relations: &[u8], most: usize) -> Whole
+fn read_rule(body: &[u8], relations: &[u8], most: usize) -> Result<Notes, Fault>
     ensures { result ≡ whole_of (read_rule relations.now most body.now) }
 {
-    if body.len() < 1 {
-        return Whole::Bad(Fault::Early);
-    }
-    let heads = wide(body[0]);
+    let Some(&heads) = body.first() else {
+        return Err(Fault::Early);
+    };
+    let heads = usize::from(heads);
     if MOST_HEAD < heads {
-        return Whole::Bad(Fault::Count);
+        return Err(Fault::Count);
     }
-    if body.len() < 2 {
-        return Whole::Bad(Fault::Early);
-    }
-    let goals = wide(body[1]);
-    if goals < 1 {
-        return Whole::Bad(Fault::Count);
-    }
-    if most < goals {
-        return Whole::Bad(Fault::Count);
-    }
-    let head = read_terms(body, 2, heads, unnoted());
-    let Step::Next(at, shown) = head else {
-        return stopped(head);
+    let Some(&goals) = body.get(1) else {
+        return Err(Fault::Early);
     };
-    let rest = read_subgoals(body, at, relations, goals, unnoted());
-    let Step::Next(end, seen) = rest else {
-        return stopped(rest);
+    let goals = usize::from(goals);
+    if goals < 1 || most < goals {
+        return Err(Fault::Count);
+    }
+    let read = read_terms(body, Front::new(2), heads);
+    let Ok(head) = read else {
+        return Err(read.unwrap_err());
     };
-    if end < body.len() {
-        return Whole::Bad(Fault::Over);
+    let read = read_subgoals(body, Front::new(head.at), relations, goals);
+    let Ok(end) = read else {
+        return Err(read.unwrap_err());
+    };
+    if end.at < body.len() {
+        return Err(Fault::Over);
     }
-    Whole::Rule(shown, seen)
-}
-
-// A fault of reading as a verdict.
-fn broken(read: Whole) -> Verdict
-    ensures { result ≡ broken_by read }
-{
-    match read {
-        Whole::Rule(_, _) => Verdict::Sound,
-        Whole::Bad(f) => Verdict::Broken(f),
-    }
+    Ok(Notes {
+        head: head.notes,
+        body: end.notes,
+    })
 }
 
 // What is to be said of a rule's bytes: its layout first, then whether it is safe, then, of a summary, whether its head is distinct variables.
-pub fn judge(body: &[u8], relations: &[u8], most: usize, summary: bool) -> Verdict
+pub fn judge(body: &[u8], relations: &[u8], most: usize, summary: bool) -> Result<(), Defect>
     ensures { Judged relations.now most summary body.now result }
 {
     let read = read_rule(body, relations, most);
-    let Whole::Rule(shown, seen) = read else {
-        return broken(read);
+    let Ok(notes) = read else {
+        return Err(Defect::Broken(read.unwrap_err()));
     };
-    if !bits::within(shown.vars, seen.vars) {
-        return Verdict::Unsafe;
+    if !bits::within(notes.head.vars, notes.body.vars) {
+        return Err(Defect::Unsafe);
     }
-    if shown.plain {
-        return Verdict::Sound;
+    if summary && !notes.head.plain {
+        return Err(Defect::Repeats);
     }
-    if summary {
-        return Verdict::Repeats;
-    }
-    Verdict::Sound
+    Ok(())
 }

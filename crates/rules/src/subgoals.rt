@@ -1,10 +1,9 @@
 // A rule's terms and subgoals, read strictly from the front: the first fault, or where reading goes on and what was noted of them.
-ghost use Rattle.std.specs.Prelude.{◌≡◌, ℕ, ◌<◌, ◌≤◌, length, drop};
+ghost use Rattle.std.specs.Prelude.{◌≡◌, ℕ, ◌<◌, ◌≤◌, length, drop, Result};
 ghost use Rattle.spec.specs.Words.{var, con};
 ghost use Rattle.spec.proofs.Bytes.RuleReading.{read_term, read_many, read_subgoal};
-ghost use Rattle.rules.specs.Marked.{mark, marks, goal_marks, of_goal, stepped};
+ghost use Rattle.rules.specs.Marked.{fresh, mark, marks, goal_marks, of_goal, stepped, Repeated};
 
-use numbers::wide;
 use spec::VARIABLES;
 
 // "a variable, numbered 0 to 31"
@@ -28,116 +27,129 @@ pub struct Marks {
     pub plain: bool,
 }
 
-// One step of reading: the place of the next byte with the notes so far, or the first fault.
-#[derive(Clone, Copy)]
-pub enum Step {
-    Next(usize, Marks),
-    Bad(Fault),
-}
+impl Marks {
+    // One variable more.
+    #[tactic(auto, unfolding(crate::specs::Marked::mark))]
+    fn with_variable(self, v: u32) -> Marks
+        requires { v < 64 }
+        ensures { result ≡ mark self (var v) }
+    {
+        Marks {
+            vars: bits::add(self.vars, v),
+            plain: !bits::holds(self.vars, v) && self.plain,
+        }
+    }
 
-// One variable more.
-fn marked(m: Marks, v: u32) -> Marks
-    requires { v < 64 }
-    ensures { result ≡ mark m (var v) }
-{
-    if bits::holds(m.vars, v) {
-        return Marks {
-            vars: bits::add(m.vars, v),
+    // One constant more, whichever it is: the terms are no longer variables alone.
+    #[tactic(auto, unfolding(crate::specs::Marked::mark))]
+    fn with_constant(self) -> Marks
+        ensures { (n : ℕ) → result ≡ mark self (con n) }
+    {
+        Marks {
             plain: false,
-        };
-    }
-    Marks {
-        vars: bits::add(m.vars, v),
-        plain: m.plain,
+            ..self
+        }
     }
 }
 
-// One constant more, whichever it is: the terms are no longer variables alone.
-fn unmarked(m: Marks) -> Marks
-    ensures { (n : ℕ) → result ≡ mark m (con n) }
-{
-    let plain = false;
-    Marks {
-        vars: m.vars,
-        plain,
+// How far a reading has come: the place of the next byte, and the notes so far.
+#[derive(Clone, Copy)]
+pub struct Front {
+    pub at: usize,
+    pub notes: Marks,
+}
+
+impl Front {
+    // A place, with nothing noted yet.
+    pub fn new(at: usize) -> Front
+        ensures { result ≡ fresh at }
+    {
+        Front {
+            at,
+            notes: Marks {
+                vars: 0,
+                plain: true,
+            },
+        }
     }
 }
 
-// The term at `at`. Its tag is judged before the number behind it.
-fn read_term(body: &[u8], at: usize, m: Marks) -> Step
-    ensures { result ≡ stepped (mark m) (length body.now) (read_term (drop at body.now)) }
+// The term at the front. Its tag is judged before the number behind it.
+fn read_term(body: &[u8], front: Front) -> Result<Front, Fault>
+    ensures { result ≡ stepped (mark front.notes) (length body.now) (read_term (drop front.at body.now)) }
 {
-    if body.len() <= at {
-        return Step::Bad(Fault::Early);
-    }
-    let tag = body[at];
+    let Some(&tag) = body.get(front.at) else {
+        return Err(Fault::Early);
+    };
     if 1 < tag {
-        return Step::Bad(Fault::Tag);
+        return Err(Fault::Tag);
     }
-    if body.len() - at < 5 {
-        return Step::Bad(Fault::Early);
+    if body.len() - front.at < 5 {
+        return Err(Fault::Early);
     }
-    let n = numbers::u32_at(body, at + 1);
+    let n = numbers::u32_at(body, front.at + 1);
+    let at = front.at + 5;
     if tag == 1 {
-        return Step::Next(at + 5, unmarked(m));
+        return Ok(Front {
+            at,
+            notes: front.notes.with_constant(),
+        });
     }
     if n < VARIABLE_END {
-        return Step::Next(at + 5, marked(m, n));
+        return Ok(Front {
+            at,
+            notes: front.notes.with_variable(n),
+        });
     }
-    Step::Bad(Fault::Variable)
+    Err(Fault::Variable)
+}
+
+// k of a kind, one after the other; the first fault ends the reading.
+fn read_many<F: Fn(Front) -> Result<Front, Fault>>(
+    from: Front,
+    k: usize,
+    read_one: F,
+) -> Result<Front, Fault>
+    requires { F.IsAlwaysCallable read_one }
+    ensures { Repeated (F.post read_one) k from result }
+{
+    let mut front = from;
+    for _ in 0..k {
+        let step = read_one(front);
+        let Ok(next) = step else {
+            return step;
+        };
+        front = next;
+    }
+    Ok(front)
 }
 
 // k terms from `from` on.
-pub fn read_terms(body: &[u8], from: usize, k: usize, m: Marks) -> Step
-    requires { from ≤ length body.now }
-    ensures { result ≡ stepped (marks m) (length body.now) (read_many read_term k (drop from body.now)) }
+pub fn read_terms(body: &[u8], from: Front, k: usize) -> Result<Front, Fault>
+    requires { from.at ≤ length body.now }
+    ensures { result ≡ stepped (marks from.notes) (length body.now) (read_many read_term k (drop from.at body.now)) }
 {
-    let mut at = from;
-    let mut notes = m;
-    let mut i: usize = 0;
-    while i < k {
-        let step = read_term(body, at, notes);
-        let Step::Next(next, more) = step else {
-            return step;
-        };
-        at = next;
-        notes = more;
-        i += 1;
-    }
-    Step::Next(at, notes)
+    read_many(from, k, |front| read_term(body, front))
 }
 
-// The subgoal at `at`: a relation there is, and as many terms as its arity.
-fn read_subgoal(body: &[u8], at: usize, relations: &[u8], m: Marks) -> Step
-    ensures { result ≡ stepped (of_goal m) (length body.now) (read_subgoal relations.now (drop at body.now)) }
+// The subgoal at the front: a relation there is, and as many terms as its arity.
+fn read_subgoal(body: &[u8], front: Front, relations: &[u8]) -> Result<Front, Fault>
+    ensures { result ≡ stepped (of_goal front.notes) (length body.now) (read_subgoal relations.now (drop front.at body.now)) }
 {
-    if body.len() <= at {
-        return Step::Bad(Fault::Early);
-    }
-    let relation = wide(body[at]);
-    if relations.len() <= relation {
-        return Step::Bad(Fault::Relation);
-    }
-    let arity = wide(relations[relation]);
-    read_terms(body, at + 1, arity, m)
+    let Some(&relation) = body.get(front.at) else {
+        return Err(Fault::Early);
+    };
+    let Some(&arity) = relations.get(usize::from(relation)) else {
+        return Err(Fault::Relation);
+    };
+    let at = front.at + 1;
+    read_terms(body, Front { at, ..front }, usize::from(arity))
 }
 
 // k subgoals from `from` on.
-pub fn read_subgoals(body: &[u8], from: usize, relations: &[u8], k: usize, m: Marks) -> Step
-    requires { from ≤ length body.now }
-    ensures { result ≡ stepped (goal_marks m) (length body.now) (read_many (read_subgoal relations.now) k (drop from body.now)) }
+pub fn read_subgoals(body: &[u8], from: Front, relations: &[u8], k: usize) -> Result<Front, Fault>
+    requires { from.at ≤ length body.now }
+    ensures { result ≡ stepped (goal_marks from.notes) (length body.now) (read_many (read_subgoal relations.now) k (drop from.at body.now)) }
 {
-    let mut at = from;
-    let mut notes = m;
-    let mut i: usize = 0;
-    while i < k {
-        let step = read_subgoal(body, at, relations, notes);
-        let Step::Next(next, more) = step else {
-            return step;
-        };
-        at = next;
-        notes = more;
-        i += 1;
-    }
-    Step::Next(at, notes)
+    read_many(from, k, |front| read_subgoal(body, front, relations))
 }

@@ -5,3 +5,4 @@ pub mod Held
 pub mod Lists
 pub mod Refresh
 pub mod Replaced
+pub mod Told

@@ -1,8 +1,7 @@
--- What each answer of `lead_of` says in the specification's words.
-use Rattle.spec.specs.Refresh.{Lead as PaperLead, ahead, unfilled}
-use Rattle.spec.specs.declared.Lead.{Lead}
-use Rattle.spec.specs.declared.Lead.TheVariants.{Ahead, Unfilled}
+-- What each answer of `lead_of` says in the specification's words: a summary never filled has no lead.
+use Rattle.std.specs.Prelude.{ℤ, Option, Some, None}
+use Rattle.spec.specs.Refresh.{Lead, ahead, unfilled}
 
-abbrev pub lead_says : Lead → PaperLead
-lead_says (Ahead z) = ahead z
-lead_says Unfilled = unfilled
+abbrev pub lead_says : Option ℤ → Lead
+lead_says (Some z) = ahead z
+lead_says None = unfilled

@@ -19,5 +19,6 @@ pub mod RuleLayout
 pub mod Summaries
 pub mod Table
 pub mod TableLoading
+pub mod Told
 pub mod Truth
 pub mod Words

@@ -1,9 +1,10 @@
 -- What rewriting a book of bytes promises, case by case.
-use Rattle.std.specs.Prelude.{◌≡◌, List, ℕ, length}
+use Rattle.std.specs.Prelude.{◌≡◌, List, ℕ, length, Result, Ok, Err}
 use Rattle.spec.specs.Table.{RewriterRefusal}
+use Rattle.spec.specs.Told.{told_of}
 use Rattle.spec.specs.declared.Reason.{Reason}
-use Rattle.spec.specs.declared.Outcome.{Outcome}
-use Rattle.spec.specs.declared.Outcome.TheVariants.{Done, Refused}
+use Rattle.spec.specs.declared.Lengths.{Lengths}
+use Rattle.spec.specs.declared.Refused.{Refused}
 use Rattle.spec.specs.Given.{at_front, answer_bytes, witness_bytes, Given}
 
 -- "An accepted answer is written to the answer area as a rule"; "Both lengths are returned; bytes past them stay."
@@ -21,6 +22,6 @@ module _ (book answer answer' witness witness' : List ℕ) where
     pub answer_stays : answer' ≡ answer
     pub witness_stays : witness' ≡ witness
 
-  abbrev pub Rewriting : Outcome → Type 0
-  Rewriting (Done n m) = Accepted book answer answer' witness witness' n m
-  Rewriting (Refused r) = TurnedDown r
+  abbrev pub Rewriting : Result Lengths Refused → Type 0
+  Rewriting (Ok l) = Accepted book answer answer' witness witness' l.answer l.witness
+  Rewriting (Err e) = TurnedDown (told_of e)

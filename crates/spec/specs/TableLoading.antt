@@ -1,11 +1,11 @@
 -- What the answers of the loader say, case by case.
-use Rattle.std.specs.Prelude.{◌≡◌, List, ◌++◌, [], ◌∷◌, ℕ, ◌+◌, ◌<◌, ◌≤◌, zero, suc, length, drop}
+use Rattle.std.specs.Prelude.{◌≡◌, List, ◌++◌, [], ◌∷◌, ℕ, ◌+◌, ◌<◌, ◌≤◌, zero, suc, length, drop, Result, Ok, Err}
 use Rattle.spec.specs.Contents.{count, offset_at, length_at, stamp_at}
 use Rattle.spec.specs.Refusals.{Loads, of_book, Refusal}
+use Rattle.spec.specs.Told.{told_of}
 use Rattle.spec.specs.declared.Reason.{Reason}
 use Rattle.spec.specs.declared.Entry.{Entry}
-use Rattle.spec.specs.declared.Loaded.{Loaded}
-use Rattle.spec.specs.declared.Loaded.TheVariants.{Good, Refused}
+use Rattle.spec.specs.declared.Refused.{Refused}
 
 -- "entry records (offset, length, stamp)": that of entry i
 unfoldable pub record_at : List ℕ → ℕ → Entry
@@ -25,17 +25,17 @@ pub data TableRefusal (book : List ℕ) (room : ℕ) : Reason → Type 0 where
   one : room < least_table → TableRefusal book room (of_book 1)
   then : {r : Reason} → least_table ≤ room → Refusal book r → r.place ≡ 0 → TableRefusal book room r
 
--- What is to be said of a book and a table of `room` records. `Good n`: the table has room, the book passes 2 to 5, and n is its count of summaries.
-abbrev pub JudgeSays : List ℕ → ℕ → Loaded → Type 0
-JudgeSays book room (Good n) = (least_table ≤ room) × (Loads book × (n ≡ count book))
-JudgeSays book room (Refused r) = TableRefusal book room r
+-- What is to be said of a book and a table of `room` records. `Ok n`: the table has room, the book passes 2 to 5, and n is its count of summaries.
+abbrev pub JudgeSays : List ℕ → ℕ → Result ℕ Refused → Type 0
+JudgeSays book room (Ok n) = (least_table ≤ room) × (Loads book × (n ≡ count book))
+JudgeSays book room (Err e) = TableRefusal book room (told_of e)
 
--- What the table is afterwards. `Good n`: the records of entries 0 to n + 1, and "the records past n + 2 stay". `Refused r`: every record stays.
-abbrev pub Afterwards : List ℕ → List Entry → List Entry → Loaded → Type 0
-Afterwards book before after (Good n) = after ≡ records_from book 0 (n + 2) ++ drop (n + 2) before
-Afterwards book before after (Refused r) = after ≡ before
+-- What the table is afterwards. `Ok n`: the records of entries 0 to n + 1, and "the records past n + 2 stay". `Err e`: every record stays.
+abbrev pub Afterwards : List ℕ → List Entry → List Entry → Result ℕ Refused → Type 0
+Afterwards book before after (Ok n) = after ≡ records_from book 0 (n + 2) ++ drop (n + 2) before
+Afterwards book before after (Err e) = after ≡ before
 
 -- The loader's promise.
-pub record LoadingSays (book : List ℕ) (before after : List Entry) (said : Loaded) : Type 0 where
+pub record LoadingSays (book : List ℕ) (before after : List Entry) (said : Result ℕ Refused) : Type 0 where
   pub judged : JudgeSays book (length before) said
   pub table : Afterwards book before after said

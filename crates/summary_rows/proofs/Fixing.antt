@@ -1,54 +1,27 @@
 -- The bindings that fix the first places: which values extend them.
-use mathlib.Core.Path.{◌≡◌, refl, sym, ap, ◌∙◌}
-use mathlib.Core.Bool.{Bool, true, false, cond}
+use mathlib.Core.Path.{◌≡◌, sym, ◌∙◌}
 use mathlib.Core.List.{List}
 use Prim.Native.Nat.{ℕ, zero, suc, ◌+◌, ◌*◌, ◌<◌}
 use native.Mathlib.Omega.{arith}
 use native.Mathlib.Decide.{ℕ_discrete, dec_lt}
 use lib.ListN.{length, get_or, set, length-set, length-replicate}
 use lib.Seq.{get_or-set_same, get_or-set_other}
-use lib.Dec.{ltb}
-use borrow.Author.Tests.{ltb-true, lt-ltb}
 use Rattle.task.specs.Task.{Task, source_relation, target_relation, width_of, value_of, Agrees, Extends}
 use Rattle.task.proofs.Slots.{value-slot}
-use Rattle.summary_rows.specs.RowPlaces.{head_term, OnTargets}
-use Rattle.summary_rows.specs.FixedPlaces.{binding, fixing}
+use Rattle.summary_rows.specs.RowPlaces.{head_term, HeadTask, OnTargets}
+use Rattle.summary_rows.specs.FixedPlaces.{fixing}
 use Rattle.spec.proofs.Lists.Zeros.{zero-at}
 
--- One more code: the values that extend the bindings with it are those that extend the bindings and give the term that code.
-module _ (g : List ℕ) (long : length g ≡ 64) (x y : ℕ) (v : ℕ → ℕ) where
-  binding-long : length (binding g x y) ≡ 64
-  binding-long = go (ltb x 64)
-    where
-      go : (t : Bool) → length (cond t (set g x y) g) ≡ 64
-      go true = length-set g x y ∙ long
-      go false = long
-
-  binding-extends : Extends g v → value_of v x ≡ y → Extends (binding g x y) v
-  binding-extends e a z n = go (ltb x 64) refl z n
-    where
-      go : (t : Bool) → ltb x 64 ≡ t → Extends (cond t (set g x y) g) v
-      go true q z n = slot (ℕ_discrete z x)
-        where
-          slot : Dec (z ≡ x) → v z ≡ get_or (set g x y) z 0
-          slot (yes o) = rw o (sym (value-slot v x (ltb-true x 64 q)) ∙ a ∙ sym (get_or-set_same g x y 0 (omega (arith, ltb-true x 64 q))))
-          slot (no o) = e z (λ u. n (get_or-set_other g x z y 0 o ∙ u)) ∙ sym (get_or-set_other g x z y 0 o)
-      go false q z n = e z n
-
--- A slot has the code, and the others keep theirs.
-module _ (g : List ℕ) (long : length g ≡ 64) (x y : ℕ) (low : x < 64) where
-  binding-is : binding g x y ≡ set g x y
-  binding-is = ap (λ t. cond t (set g x y) g) (lt-ltb x 64 low)
-
-  binding-here : get_or (binding g x y) x 0 ≡ y
-  binding-here = ap (λ l. get_or l x 0) binding-is ∙ get_or-set_same g x y 0 (omega arith)
-
-  binding-other : (z : ℕ) → (z ≡ x → ⊥) → get_or (binding g x y) z 0 ≡ get_or g z 0
-  binding-other z o = ap (λ l. get_or l z 0) binding-is ∙ get_or-set_other g x z y 0 o
+-- One more slot bound: the values that extend the bindings with it are those that extend the bindings and give the slot that code.
+set-extends : (g : List ℕ) → length g ≡ 64 → (x y : ℕ) → x < 64 → (v : ℕ → ℕ) → Extends g v → value_of v x ≡ y → Extends (set g x y) v
+set-extends g long x y low v e a z n = elim (ℕ_discrete z x) [
+  | yes o ↦ rw o (sym (value-slot v x low) ∙ a ∙ sym (get_or-set_same g x y 0 (omega arith)))
+  | no o ↦ e z (λ u. n (get_or-set_other g x z y 0 o ∙ u)) ∙ sym (get_or-set_other g x z y 0 o)
+]
 
 -- A source subgoal of one term.
 module _ (p : Task) (i k : ℕ) (single : width_of p i ≡ 1) (v : ℕ → ℕ) where
-  only-term : Agrees p v i k → value_of v (get_or p.source (9 * i + 1) 0) ≡ get_or p.target (9 * k + 1) 0
+  pub only-term : Agrees p v i k → value_of v (get_or p.source (9 * i + 1) 0) ≡ get_or p.target (9 * k + 1) 0
   only-term a =
       let s : 9 * i + 1 + 0 ≡ 9 * i + 1 = omega arith in
       let t : 9 * k + 1 + 0 ≡ 9 * k + 1 = omega arith in
@@ -81,14 +54,14 @@ module _ (p : Task) (ks : List ℕ) where
   fixing-long : (j : ℕ) → length (fixed j) ≡ 64
   unfolding fixing
   fixing-long zero = length-replicate {A = ℕ} 64 0
-  fixing-long (suc j) = binding-long (fixed j) (fixing-long j) (term_of j) (code_of j) (λ x. x)
+  fixing-long (suc j) = length-set (fixed j) (term_of j) (code_of j) ∙ fixing-long j
 
-  pub fixing-forced : (j : ℕ) → ((i : ℕ) → i < j → width_of p i ≡ 1) → (v : ℕ → ℕ) → AgreeTo p j ks v → Extends (fixing p.source p.target ks j) v
+  pub fixing-forced : (j : ℕ) → ((i : ℕ) → i < j → width_of p i ≡ 1) → ((i : ℕ) → i < j → head_term p i < 64) → (v : ℕ → ℕ) → AgreeTo p j ks v → Extends (fixing p.source p.target ks j) v
   unfolding fixing
-  fixing-forced zero single v a = λ x n. absurd (n (zero-at 64 x))
-  fixing-forced (suc j) single v a =
-      binding-extends (fixed j) (fixing-long j) (term_of j) (code_of j) v
-      (fixing-forced j (λ i h. single i (omega arith)) v (λ i h. a i (omega arith))) (only-term p j (get_or ks j 0) (single j (omega arith)) v (a j (omega arith)))
+  fixing-forced zero single slots v a = λ x n. absurd (n (zero-at 64 x))
+  fixing-forced (suc j) single slots v a =
+      set-extends (fixed j) (fixing-long j) (term_of j) (code_of j) (slots j (omega arith)) v
+      (fixing-forced j (λ i h. single i (omega arith)) (λ i h. slots i (omega arith)) v (λ i h. a i (omega arith))) (only-term p j (get_or ks j 0) (single j (omega arith)) v (a j (omega arith)))
 
   -- each place's slot has its target's code, since no two have one slot
   fixing-code : (j : ℕ) → ((i : ℕ) → i < j → head_term p i < 64) → ((i k : ℕ) → i < k → k < j → head_term p i ≡ head_term p k → ⊥) → (i : ℕ) → i < j → get_or (fixed j) (term_of i) 0 ≡ code_of i
@@ -96,25 +69,25 @@ module _ (p : Task) (ks : List ℕ) where
   fixing-code zero slots apart i l = absurd (omega arith)
   fixing-code (suc j) slots apart i l = go (dec_lt i j) (fixing-code j (λ a b. slots a (omega arith)) (λ a k b c. apart a k b (omega arith)) i)
     where
-      go : Dec (i < j) → (i < j → get_or (fixed j) (term_of i) 0 ≡ code_of i) → get_or (binding (fixed j) (term_of j) (code_of j)) (term_of i) 0 ≡ code_of i
-      go (yes o) before = binding-other (fixed j) (fixing-long j) (term_of j) (code_of j) (slots j (omega arith)) (term_of i) (apart i j o (omega arith)) ∙ before o
-      go (no o) before = let q : i ≡ j = omega arith in rw q (binding-here (fixed j) (fixing-long j) (term_of j) (code_of j) (slots j (omega arith)))
+      go : Dec (i < j) → (i < j → get_or (fixed j) (term_of i) 0 ≡ code_of i) → get_or (set (fixed j) (term_of j) (code_of j)) (term_of i) 0 ≡ code_of i
+      go (yes o) before = get_or-set_other (fixed j) (term_of j) (term_of i) (code_of j) 0 (apart i j o (omega arith)) ∙ before o
+      go (no o) before = let q : i ≡ j = omega arith in rw q (get_or-set_same (fixed j) (term_of j) (code_of j) 0 (omega (arith, slots j (omega arith), fixing-long j)))
 
 -- The bindings put the first places of a head on targets of the head's relation.
-module _ (p : Task) (h j : ℕ) (ks : List ℕ) (on : OnTargets p h j ks) where
+module _ (p : Task) (h : ℕ) (ready : HeadTask p h) (j : ℕ) (ks : List ℕ) (on : OnTargets p h j ks) where
   pub fixing-fits : (v : ℕ → ℕ) → Extends (fixing p.source p.target ks j) v → AgreeTo p j ks v
-  fixing-fits v e i l = term-only p i (get_or ks i 0) (on.task.single i below) v (on.relation i l) (value-slot v (head_term p i) slot ∙ e (head_term p i) (λ z. solid (sym code ∙ z)) ∙ code)
+  fixing-fits v e i l = term-only p i (get_or ks i 0) (ready.single i below) v (on.relation i l) (value-slot v (head_term p i) slot ∙ e (head_term p i) (λ z. solid (sym code ∙ z)) ∙ code)
     where
       below : i < h
       below = omega (arith, on.few)
 
       slot : head_term p i < 64
-      slot = on.task.slots i below
+      slot = ready.slots i below
 
       code : get_or (fixing p.source p.target ks j) (head_term p i) 0 ≡ get_or p.target (9 * get_or ks i 0 + 1) 0
-      code = fixing-code p ks j (λ a b. on.task.slots a (omega (arith, on.few))) (λ a k b c. on.task.apart a k b (omega (arith, on.few))) i l
+      code = fixing-code p ks j (λ a b. ready.slots a (omega (arith, on.few))) (λ a k b c. ready.apart a k b (omega (arith, on.few))) i l
 
       solid : get_or p.target (9 * get_or ks i 0 + 1) 0 ≡ 0 → ⊥
       solid z =
           let t : 9 * get_or ks i 0 + 1 + 0 ≡ 9 * get_or ks i 0 + 1 = omega arith in
-          on.task.sized.solid (get_or ks i 0) 0 (on.within i l) (omega arith) (rw t z)
+          ready.sized.solid (get_or ks i 0) 0 (on.within i l) (omega arith) (rw t z)

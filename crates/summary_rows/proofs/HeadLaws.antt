@@ -186,7 +186,7 @@ module _ (v q : Rule ℕ) (ts : List (Term ℕ)) (p : Task) (h : ℕ) (w : TaskO
     short = omega (arith, w.long, w.summary.short);
     slots = slots;
     apart = apart;
-    safe = covered;
+    safe = λ b l c i low. ∣ covered b l c i low ∣₁;
   }
 
   pub row-ready : HeadTask p h

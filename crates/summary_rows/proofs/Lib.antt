@@ -1,12 +1,12 @@
 pub mod AllRows
 pub mod AtTerms
 pub mod BeginLaw
-pub mod Copying
 pub mod FillLaw
 pub mod Fixing
 pub mod FixingSteps
 pub mod Fronts
 pub mod HeadLaws
+pub mod HeadTargets
 pub mod ListSteps
 pub mod Listing
 pub mod NextLaw

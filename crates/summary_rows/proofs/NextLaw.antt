@@ -1,7 +1,6 @@
 -- The next row: with the places before j kept, place j is taken further, from the last place of the head on down.
 use mathlib.Core.Path.{◌≡◌, refl, sym, ap, ◌∙◌}
 use mathlib.Core.Logic.{◌⊎◌, inl, inr, ⊎_elim}
-use mathlib.Core.Bool.{true, false}
 use mathlib.Core.List.{List, [], ◌∷◌, ◌++◌}
 use Prim.Native.Nat.{ℕ, suc, ◌+◌, ◌<◌}
 use native.Mathlib.Omega.{arith}
@@ -9,8 +8,7 @@ use lib.ListN.{length, get_or, take, drop, drop_of_length-le}
 use lib.Seq.{length-take-le, take-set-le, take-take, get_or-take}
 use Rattle.spec.specs.Order.{ListBefore, First}
 use Rattle.task.specs.Task.{Task}
-use Rattle.placing.specs.declared.Places.{Places}
-use Rattle.summary_rows.specs.RowPlaces.{HeadTask, RowPlaces, LaterPlaces, PlacesWith, RowGoesOn, NextPlace}
+use Rattle.summary_rows.specs.RowPlaces.{HeadTask, RowPlaces, LaterPlaces, PlacesWith, RowGoesOn, PlacePut}
 use Rattle.summary_rows.proofs.Fronts.{front_same, front-split, front-decides, split-later}
 use Rattle.spec.proofs.Lists.Parts.{front-last, front-put}
 use Rattle.summary_rows.proofs.RowFronts.{goes_on}
@@ -46,55 +44,51 @@ module _ (p : Task) (h : ℕ) (ready : HeadTask p h) (ks : List ℕ) (long : len
         (λ w. absurd (gone js y w.0 w.1))
         (split-later j (take h ks) js (head-long ∙ sym y.long) (omega (arith, head-long)) e b)
 
-    module _ (r : Places) (place : NextPlace p h j ks from r) where
-      pub gone-more : r.ok ≡ false → Gone p h ks j
-      unfolding Gone
-      gone-more fails js y e b = place.none fails (get_or js j 0) (further js y e b)
+    pub gone-more : ((k : ℕ) → RowGoesOn p h j ks from k → ⊥) → Gone p h ks j
+    unfolding Gone
+    gone-more none js y e b = none (get_or js j 0) (further js y e b)
 
-      -- the first row with the place that was found
-      module _ (ok : r.ok ≡ true) (next : List ℕ) (first : First (PlacesWith p h (j + 1) r.ks) (ListBefore ◌<◌) next) where
-        abbrev k : ℕ
-        k = (place.found ok).0
+    -- the first row with the place that was found
+    module _ (front : List ℕ) (found : PlacePut p h j ks from front) (next : List ℕ) (first : First (PlacesWith p h (j + 1) front) (ListBefore ◌<◌) next) where
+      abbrev k : ℕ
+      k = found.place
 
-        least-place : First (RowGoesOn p h j ks from) ◌<◌ k
-        least-place = (place.found ok).2
+      put : take (j + 1) front ≡ take j ks ++ (k ∷ [])
+      put = ap (take (j + 1)) found.put ∙ front-put ks j k (omega (arith, ready.short))
 
-        put : take (j + 1) r.ks ≡ take j ks ++ (k ∷ [])
-        put = ap (take (j + 1)) (place.found ok).1 ∙ front-put ks j k (omega (arith, ready.short))
+      next-long : length next ≡ h
+      next-long = first.holds.row.long
 
-        next-long : length next ≡ h
-        next-long = first.holds.row.long
+      next-front : take (j + 1) next ≡ take j ks ++ (k ∷ [])
+      next-front = first.holds.begins ∙ put
 
-        next-front : take (j + 1) next ≡ take j ks ++ (k ∷ [])
-        next-front = first.holds.begins ∙ put
+      next-kept : take j next ≡ take j ks
+      next-kept =
+          sym (take-take j (j + 1) next (omega arith)) ∙ ap (take j) first.holds.begins ∙ take-take j (j + 1) front (omega arith)
+          ∙ ap (take j) found.put ∙ take-set-le j ks j k (omega arith)
 
-        next-kept : take j next ≡ take j ks
-        next-kept =
-            sym (take-take j (j + 1) next (omega arith)) ∙ ap (take j) first.holds.begins ∙ take-take j (j + 1) r.ks (omega arith)
-            ∙ ap (take j) (place.found ok).1 ∙ take-set-le j ks j k (omega arith)
+      after : ListBefore ◌<◌ (take h ks) next
+      after = front-decides (j + 1) (take h ks) next (omega (arith, head-long)) (omega (arith, next-long))
+          (rw (next-front, take-take (j + 1) h ks (omega arith), front-last ks j (omega (arith, ready.short)))
+          (front_same ◌<◌ (take j ks) (get_or ks j 0 ∷ []) (k ∷ []) (inl (omega (arith, found.first.holds.later)))))
 
-        after : ListBefore ◌<◌ (take h ks) next
-        after = front-decides (j + 1) (take h ks) next (omega (arith, head-long)) (omega (arith, next-long))
-            (rw (next-front, take-take (j + 1) h ks (omega arith), front-last ks j (omega (arith, ready.short)))
-            (front_same ◌<◌ (take j ks) (get_or ks j 0 ∷ []) (k ∷ []) (inl (omega (arith, least-place.holds.later)))))
+      least : (js : List ℕ) → LaterPlaces p h ks js → (next ≡ js) ⊎ ListBefore ◌<◌ next js
+      least js y = ⊎_elim before same (front-split ◌<◌ j (take h ks) js (head-long ∙ sym y.row.long) y.after)
+        where
+          before : ListBefore ◌<◌ (take j (take h ks)) (take j js) → (next ≡ js) ⊎ ListBefore ◌<◌ next js
+          before b = inr (front-decides j next js (omega (arith, next-long)) (omega (arith, y.row.long)) (rw (next-kept, ← kept_same) b))
 
-        least : (js : List ℕ) → LaterPlaces p h ks js → (next ≡ js) ⊎ ListBefore ◌<◌ next js
-        least js y = ⊎_elim before same (front-split ◌<◌ j (take h ks) js (head-long ∙ sym y.row.long) y.after)
-          where
-            before : ListBefore ◌<◌ (take j (take h ks)) (take j js) → (next ≡ js) ⊎ ListBefore ◌<◌ next js
-            before b = inr (front-decides j next js (omega (arith, next-long)) (omega (arith, y.row.long)) (rw (next-kept, ← kept_same) b))
+          same : (take j (take h ks) ≡ take j js) × ListBefore ◌<◌ (drop j (take h ks)) (drop j js) → (next ≡ js) ⊎ ListBefore ◌<◌ next js
+          same w = ⊎_elim here later (found.first.least (get_or js j 0) (further js y.row w.0 w.1))
+            where
+              parts : take (j + 1) js ≡ take j ks ++ (get_or js j 0 ∷ [])
+              parts = front-last js j (omega (arith, y.row.long)) ∙ ap (λ m. m ++ (get_or js j 0 ∷ [])) (sym w.0 ∙ kept_same)
 
-            same : (take j (take h ks) ≡ take j js) × ListBefore ◌<◌ (drop j (take h ks)) (drop j js) → (next ≡ js) ⊎ ListBefore ◌<◌ next js
-            same w = ⊎_elim here later (least-place.least (get_or js j 0) (further js y.row w.0 w.1))
-              where
-                parts : take (j + 1) js ≡ take j ks ++ (get_or js j 0 ∷ [])
-                parts = front-last js j (omega (arith, y.row.long)) ∙ ap (λ m. m ++ (get_or js j 0 ∷ [])) (sym w.0 ∙ kept_same)
+              here : k ≡ get_or js j 0 → (next ≡ js) ⊎ ListBefore ◌<◌ next js
+              here q = first.least js record { row = y.row; begins = parts ∙ ap (λ n. take j ks ++ (n ∷ [])) (sym q) ∙ sym put }
 
-                here : k ≡ get_or js j 0 → (next ≡ js) ⊎ ListBefore ◌<◌ next js
-                here q = first.least js record { row = y.row; begins = parts ∙ ap (λ n. take j ks ++ (n ∷ [])) (sym q) ∙ sym put }
+              later : k < get_or js j 0 → (next ≡ js) ⊎ ListBefore ◌<◌ next js
+              later l = inr (front-decides (j + 1) next js (omega (arith, next-long)) (omega (arith, y.row.long)) (rw (next-front, parts) (front_same ◌<◌ (take j ks) (k ∷ []) (get_or js j 0 ∷ []) (inl l))))
 
-                later : k < get_or js j 0 → (next ≡ js) ⊎ ListBefore ◌<◌ next js
-                later l = inr (front-decides (j + 1) next js (omega (arith, next-long)) (omega (arith, y.row.long)) (rw (next-front, parts) (front_same ◌<◌ (take j ks) (k ∷ []) (get_or js j 0 ∷ []) (inl l))))
-
-        pub next-found : First (LaterPlaces p h ks) (ListBefore ◌<◌) next
-        next-found = record { holds = record { row = first.holds.row; after = after }; least = least }
+      pub next-found : First (LaterPlaces p h ks) (ListBefore ◌<◌) next
+      next-found = record { holds = record { row = first.holds.row; after = after }; least = least }

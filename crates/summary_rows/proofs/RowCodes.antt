@@ -1,17 +1,17 @@
 -- The codes of a row, one by one, and as the codes of a subgoal over terms.
 use mathlib.Core.Path.{◌≡◌, refl, sym, ap, ap₂, ◌∙◌}
 use mathlib.Core.Option.{some}
-use mathlib.Core.List.{List, [], ◌∷◌, map}
-use Prim.Native.Nat.{ℕ, zero, suc, ◌+◌, ◌*◌, ◌-◌, ◌<◌, ◌≤◌}
+use mathlib.Core.List.{List, [], ◌∷◌, ◌++◌, map, map-append}
+use Prim.Native.Nat.{ℕ, zero, suc, ◌+◌, ◌*◌, ◌<◌}
 use native.Mathlib.Omega.{arith}
-use lib.ListN.{length, get_or, take, length-map}
-use lib.Seq.{length-take-le, get_or-take}
+use lib.ListN.{length, get_or, take, set, replicate, length-map}
+use lib.Seq.{length-take-le, take-suc}
 use Rattle.spec.proofs.Decided.Rows.{as_row}
 use Rattle.spec.specs.Words.{Term, Rule}
 use Rattle.spec.specs.Summaries.{place}
-use Rattle.spec.proofs.Lists.At.{map_get, place-get_or}
+use Rattle.spec.proofs.Lists.At.{place-get_or}
 use Rattle.codes.specs.Code.{padded, term_code, subgoal_codes}
-use Rattle.codes.proofs.Padded.{padded-length, padded-get, padded-past}
+use Rattle.codes.proofs.Padded.{padded-length}
 use Rattle.task.specs.Task.{Task}
 use Rattle.search_meaning.proofs.AtCodes.{nothing}
 use Rattle.summary_rows.specs.RowTask.{alone, onto, TaskOf}
@@ -19,33 +19,32 @@ use Rattle.summary_rows.specs.RowCodes.{row_codes}
 use Rattle.summary_rows.proofs.AtTerms.{Stand, place-front}
 use Rattle.summary_rows.proofs.HeadLaws.{alone-term}
 
-padded-in : (f : ℕ → ℕ) (n : ℕ) (l : List ℕ) (i : ℕ) → i < n → i < length l → get_or (padded n (map f l)) i 0 ≡ f (get_or l i 0)
-padded-in f n l i h m = padded-get n (map f l) i h (omega (arith, length-map l f)) ∙ map_get f l i 0 0 m
+-- one code more
+padded-push : (n : ℕ) (l : List ℕ) (x : ℕ) → length l < n → set (padded n l) (length l) x ≡ padded n (l ++ (x ∷ []))
+padded-push zero l x h = absurd (omega arith)
+padded-push (suc n) [] x h = refl
+padded-push (suc n) (y ∷ l) x h = ap (λ r. y ∷ r) (padded-push n l x (omega arith))
 
 module _ (number : ℕ) (target : List ℕ) where
+  abbrev code_at : ℕ → ℕ
+  code_at k = get_or target (9 * k + 1) 0
+
   pub row-long : (js : List ℕ) → length (row_codes number target js) ≡ 9
   unfolding row_codes
-  row-long js = ap suc (padded-length 8 (map (λ k. get_or target (9 * k + 1) 0) js))
+  row-long js = ap suc (padded-length 8 (map code_at js))
 
-  pub code-number : (js : List ℕ) (i : ℕ) → i ≡ 0 → number ≡ get_or (row_codes number target js) i 0
+  pub row-start : ◌≡◌ {A = List ℕ} (number ∷ replicate 8 1) (row_codes number target [])
   unfolding row_codes
-  code-number js i e = rw e
+  row-start = refl
 
-  module _ (ks : List ℕ) (h : ℕ) (long : length ks ≡ 96) (short : h ≤ 8) where
-    front_long : length (take h ks) ≡ h
-    front_long = length-take-le h ks (omega arith)
-
-    pub code-term : (i : ℕ) → (i ≡ 0 → ⊥) → i ≤ h → get_or target (9 * get_or ks (i - 1) 0 + 1) 0 ≡ get_or (row_codes number target (take h ks)) i 0
-    unfolding row_codes
-    code-term zero n l = absurd (n refl)
-    code-term (suc i) n l =
-        let e : suc i - 1 ≡ i = omega arith in
-        rw (e, ← (get_or-take h ks i 0 (omega arith))) (sym (padded-in (λ k. get_or target (9 * k + 1) 0) 8 (take h ks) i (omega arith) (omega (arith, front_long))))
-
-    pub code-past : (i : ℕ) → i < 9 → h < i → 1 ≡ get_or (row_codes number target (take h ks)) i 0
-    unfolding row_codes
-    code-past zero o l = absurd (omega arith)
-    code-past (suc i) o l = sym (padded-past 8 (map (λ k. get_or target (9 * k + 1) 0) (take h ks)) i (omega arith) (omega (arith, front_long, length-map (take h ks) (λ k. get_or target (9 * k + 1) 0))))
+  pub row-push : (ks : List ℕ) (i k x : ℕ) → i < length ks → i < 8 → k ≡ get_or ks i 0 → x ≡ get_or target (9 * k + 1 + 0) 0 → set (row_codes number target (take i ks)) (i + 1) x ≡ row_codes number target (take (i + 1) ks)
+  unfolding row_codes
+  row-push ks i k x h few at is =
+      let one : i + 1 ≡ suc i = omega arith in
+      let zero : 9 * get_or ks i 0 + 1 + 0 ≡ 9 * get_or ks i 0 + 1 = omega arith in
+      let long : i ≡ length (map code_at (take i ks)) = omega (arith, length-map (take i ks) code_at, length-take-le i ks (omega arith)) in
+      let more : map code_at (take (suc i) ks) ≡ map code_at (take i ks) ++ (code_at (get_or ks i 0) ∷ []) = ap (map code_at) (take-suc ks i 0 h) ∙ map-append code_at (take i ks) (get_or ks i 0 ∷ []) in
+      rw (one, is, at, zero) (ap (λ l. number ∷ l) (ap (λ n. set (padded 8 (map code_at (take i ks))) n (code_at (get_or ks i 0))) long ∙ padded-push 8 (map code_at (take i ks)) (code_at (get_or ks i 0)) (omega arith) ∙ ap (padded 8) (sym more)))
 
 -- A row's codes are those of the terms at its places.
 module _ (v q : Rule ℕ) (ts : List (Term ℕ)) (p : Task) (h : ℕ) (w : TaskOf v q ts p h) where

@@ -36,18 +36,18 @@ pub goes_on : (p : Task) (h j : ℕ) (ks js : List ℕ) (from : ℕ) → RowPlac
 goes_on p h j ks js from y low e l = record { later = l; front = subst (RowFront p h) (front-last js j (omega (arith, y.long)) ∙ ap (λ m. m ++ (get_or js j 0 ∷ [])) e) (row-front p h js y (j + 1)) }
 
 -- where ks begins with the front of a row
-module _ (p : Task) (h j : ℕ) (ks : List ℕ) (long : length ks ≡ 96) (at : FrontNeeds p h j ks) where
+module _ (p : Task) (h : ℕ) (ready : HeadTask p h) (j : ℕ) (ks : List ℕ) (long : length ks ≡ 96) (at : FrontNeeds p h j ks) where
   abbrev pub front-row : List ℕ
   front-row = take j ks ++ at.front.more
 
   pub front_long : length (take j ks) ≡ j
-  front_long = length-take-le j ks (omega (arith, at.few, at.task.short))
+  front_long = length-take-le j ks (omega (arith, at.few, ready.short))
 
   pub front-begins : take j front-row ≡ take j ks
   front-begins = take_at (take j ks) at.front.more j front_long
 
   pub front-stands : (i : ℕ) → i < j → (v : ℕ → ℕ) × StandsAt p v i (get_or ks i 0)
   front-stands i l = (
-    values p h at.task front-row at.front.row,
-    rw (get_or-append (take j ks) at.front.more 0 i (omega (arith, front_long)), get_or-take j ks i 0 l) at (row-stands p h at.task front-row at.front.row i (omega (arith, at.few))),
+    values p h ready front-row at.front.row,
+    rw (get_or-append (take j ks) at.front.more 0 i (omega (arith, front_long)), get_or-take j ks i 0 l) at (row-stands p h ready front-row at.front.row i (omega (arith, at.few))),
   )

@@ -1,13 +1,12 @@
 -- The table of summary rows: at the start, past a summary that is left out, past one that is admitted, at the end, and where there are too many.
 use mathlib.Core.Path.{◌≡◌, refl, sym, ap, ap₂, ◌∙◌}
-use mathlib.Core.Bool.{true, false}
 use mathlib.Core.Option.{some, none}
 use mathlib.Core.List.{List, [], ◌++◌, append_assoc}
 use Prim.Native.Nat.{ℕ, suc, ◌+◌, ◌*◌, ◌-◌, ◌<◌, ◌≤◌}
 use native.Mathlib.Omega.{arith}
 use lib.ListN.{length, take, drop, length-append}
 use lib.Seq.{length-take-le, take_all, take_at, take-append-le, take-append-add, drop-append-add, drop-drop}
-use borrow.Author.Tests.{ltb-true, ltb-false}
+use Rattle.std.specs.Prelude.{Option, Some, None}
 use Rattle.spec.specs.Words.{Term, Subgoal, Rule}
 use Rattle.spec.specs.Summaries.{Summaries, summary}
 use Rattle.spec.specs.Order.{RowBefore}
@@ -19,7 +18,6 @@ use Rattle.codes.specs.Code.{term_code, codes_of}
 use Rattle.codes.proofs.Padded.{codes-length, codes-append}
 use Rattle.summary_rows.specs.RowsAfter.{RowsAfter}
 use Rattle.summary_rows.specs.Tables.{RowTo, TableTo}
-use Rattle.summary_rows.specs.declared.Tally.{Tally}
 use Rattle.summary_rows.proofs.AllRows.{rows_none, rows-skip, rows_more, rows_all, rows-front}
 
 module _ (s : Summaries) (q : Rule ℕ) (before : List ℕ) where
@@ -49,48 +47,39 @@ module _ (s : Summaries) (q : Rule ℕ) (before : List ℕ) where
         ∙ sym (append_assoc (codes_of term_code t.rows) (codes_of term_code l) (drop (9 * m) before))
         ∙ ap (λ x. x ++ drop (9 * m) before) (sym (codes-append term_code t.rows l))
 
-    module _ (v : Rule ℕ) (e : summary s (suc n) ≡ some v) (after : List ℕ) (r : Tally) (a : RowsAfter (suc n) v q count out after r) where
-      both : Enumerates (RowTo s q (suc n)) RowBefore (t.rows ++ a.rows)
-      both = rows_more s q n v t.rows a.rows e t.all a.all
+    module _ (v : Rule ℕ) (e : summary s (suc n) ≡ some v) (after : List ℕ) where
+      both : {r : Option ℕ} (a : RowsAfter (suc n) v q count out after r) → Enumerates (RowTo s q (suc n)) RowBefore (t.rows ++ a.rows)
+      both a = rows_more s q n v t.rows a.rows e t.all a.all
 
-      pub table_more : r.over ≡ false → TableTo s q (suc n) before after r.count
-      table_more fits = record {
+      pub table_more : (m : ℕ) → RowsAfter (suc n) v q count out after (Some m) → TableTo s q (suc n) before after m
+      table_more m a = record {
         rows = t.rows ++ a.rows;
-        all = both;
-        counted = more ∙ omega (arith, t.counted, length-append t.rows a.rows);
-        few = omega (arith, more, room);
-        codes = a.codes ∙ ap (λ l. take (9 * count) out ++ (codes_of term_code l ++ drop (9 * r.count) out)) taken ∙ more-codes a.rows r.count (omega (arith, more));
+        all = both a;
+        counted = omega (arith, a.count.0, t.counted, length-append t.rows a.rows);
+        few = a.count.1;
+        codes = a.codes ∙ ap (λ l. take (9 * count) out ++ (codes_of term_code l ++ drop (9 * (count + length l)) out)) taken ∙ ap (λ k. take (9 * count) out ++ (codes_of term_code a.rows ++ drop (9 * k) out)) (sym a.count.0) ∙ more-codes a.rows m (omega (arith, a.count.0));
       }
         where
-          room : count + length a.rows ≤ most_rows
-          room = ltb-false most_rows (count + length a.rows) (sym a.over ∙ fits)
-
           taken : take (most_rows - count) a.rows ≡ a.rows
-          taken = take_all (most_rows - count) a.rows (omega (arith, room))
-
-          more : r.count ≡ count + length a.rows
-          more = a.count ∙ ap (λ l. count + length l) taken
+          taken = take_all (most_rows - count) a.rows (omega (arith, a.count.0, a.count.1))
 
       -- "more than 64 summary rows": the first 64 stand in the table
-      module _ (safe : AllSafe s) (over : r.over ≡ true) where
+      module _ (safe : AllSafe s) (a : RowsAfter (suc n) v q count out after None) where
         later : (l : List (Subgoal (Term ℕ))) × (all_rows s q ≡ (t.rows ++ a.rows) ++ l)
-        later = rows-front s q safe (suc n) (t.rows ++ a.rows) both
-
-        too_many : most_rows < count + length a.rows
-        too_many = ltb-true most_rows (count + length a.rows) (sym a.over ∙ over)
+        later = rows-front s q safe (suc n) (t.rows ++ a.rows) (both a)
 
         pub table-over : most_rows < length (all_rows s q)
-        table-over = omega (arith, too_many, ap length later.1, length-append (t.rows ++ a.rows) later.0, length-append t.rows a.rows, t.counted)
+        table-over = omega (arith, a.count, ap length later.1, length-append (t.rows ++ a.rows) later.0, length-append t.rows a.rows, t.counted)
 
-        full : r.count ≡ most_rows
-        full = a.count ∙ omega (arith, length-take-le (most_rows - count) a.rows (omega (arith, too_many)), t.few)
+        full : count + length (take (most_rows - count) a.rows) ≡ most_rows
+        full = omega (arith, length-take-le (most_rows - count) a.rows (omega (arith, a.count)), t.few)
 
         first_rows : take most_rows (all_rows s q) ≡ t.rows ++ take (most_rows - count) a.rows
         first_rows =
             let n : most_rows ≡ length t.rows + (most_rows - count) = omega (arith, t.counted, t.few) in
             ap₂ take n (later.1 ∙ append_assoc t.rows a.rows later.0)
             ∙ take-append-add t.rows (a.rows ++ later.0) (most_rows - count)
-            ∙ ap (λ l. t.rows ++ l) (take-append-le (most_rows - count) a.rows later.0 (omega (arith, too_many)))
+            ∙ ap (λ l. t.rows ++ l) (take-append-le (most_rows - count) a.rows later.0 (omega (arith, a.count)))
 
         pub over-codes : after ≡ codes_of term_code (take most_rows (all_rows s q)) ++ drop (9 * most_rows) before
         over-codes =

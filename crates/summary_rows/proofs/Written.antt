@@ -1,18 +1,13 @@
 -- One row's codes more in the table.
 use mathlib.Core.Path.{◌≡◌, sym, ap, ap₂, ◌∙◌}
-use mathlib.Core.List.{List, [], ◌∷◌, ◌++◌, map, append_assoc, append-nil}
+use mathlib.Core.List.{List, [], ◌∷◌, ◌++◌, map, append_assoc}
 use Prim.Native.Nat.{ℕ, suc, ◌+◌, ◌*◌, ◌≤◌}
 use native.Mathlib.Omega.{arith}
-use lib.ListN.{length, take, drop, length-append, length-drop}
+use lib.ListN.{length, take, drop, length-append}
 use lib.Seq.{take_all, take_at, drop-append-add, drop-drop, length-take-le, paste}
 use Rattle.spec.specs.Words.{Term, Subgoal}
 use Rattle.codes.specs.Code.{term_code, subgoal_codes, codes_of}
-use Rattle.codes.proofs.Padded.{padded-length, codes-length}
-
--- the codes of one subgoal more
-codes-more : (l : List (Subgoal (Term ℕ))) (g : Subgoal (Term ℕ)) → codes_of term_code (l ++ (g ∷ [])) ≡ codes_of term_code l ++ subgoal_codes term_code g
-codes-more [] g = append-nil (subgoal_codes term_code g)
-codes-more (k ∷ l) g = ap (λ r. subgoal_codes term_code k ++ r) (codes-more l g) ∙ sym (append_assoc (subgoal_codes term_code k) (codes_of term_code l) (subgoal_codes term_code g))
+use Rattle.codes.proofs.Padded.{padded-length, codes-length, codes-more}
 
 -- the table: what stood before the found rows' end, then the rows of l, then what stood behind them
 abbrev pub table : List ℕ → ℕ → List (Subgoal (Term ℕ)) → ℕ → List ℕ
@@ -28,9 +23,6 @@ module _ (before : List ℕ) (found : ℕ) (l : List (Subgoal (Term ℕ))) (coun
   fronted : table before found l count ≡ front ++ drop (9 * count) before
   fronted = sym (append_assoc (take (9 * found) before) (codes_of term_code l) (drop (9 * count) before))
 
-  pub table-long : length (table before found l count) ≡ length before
-  table-long = ap length fronted ∙ length-append front (drop (9 * count) before) ∙ omega (arith, front_long, length-drop (9 * count) before)
-
   pub table_more : (g : Subgoal (Term ℕ)) → paste (table before found l count) (9 * count) (subgoal_codes term_code g) 9 ≡ table before found (l ++ (g ∷ [])) (count + 1)
   table_more g =
       let s : List ℕ = subgoal_codes term_code g in
@@ -42,5 +34,5 @@ module _ (before : List ℕ) (found : ℕ) (l : List (Subgoal (Term ℕ))) (coun
       let behind : drop (9 * count + 9) (table before found l count) ≡ after =
       ap (drop (9 * count + 9)) fronted ∙ ap (λ k. drop k (front ++ drop (9 * count) before)) n ∙ drop-append-add front (drop (9 * count) before) 9 ∙ drop-drop 9 (9 * count) before ∙ ap (λ k. drop k before) m in
       ap₂ (λ x y. (x ++ take 9 s) ++ y) kept behind ∙ ap (λ x. (front ++ x) ++ after) new
-      ∙ ap (λ x. x ++ after) (append_assoc (take (9 * found) before) (codes_of term_code l) s ∙ ap (λ x. take (9 * found) before ++ x) (sym (codes-more l g)))
+      ∙ ap (λ x. x ++ after) (append_assoc (take (9 * found) before) (codes_of term_code l) s ∙ ap (λ x. take (9 * found) before ++ x) (sym (codes-more term_code l g)))
       ∙ append_assoc (take (9 * found) before) (codes_of term_code (l ++ (g ∷ []))) after

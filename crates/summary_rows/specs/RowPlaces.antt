@@ -1,11 +1,10 @@
 -- Rows by the places of the head: the first few source subgoals of a task of one use are the head's places, and the targets of these are terms in ascending order.
-use Rattle.std.specs.Prelude.{◌≡◌, ◌↔◌, Bool, true, false, List, [], ◌∷◌, ◌++◌, ℕ, ◌+◌, ◌*◌, ◌-◌, ◌<◌, ◌≤◌, length, get_or, set, take, drop, replicate}
+use Rattle.std.specs.Prelude.{◌≡◌, ◌↔◌, Bool, true, List, [], ◌∷◌, ◌++◌, ℕ, ◌+◌, ◌*◌, ◌-◌, ◌<◌, ◌≤◌, length, get_or, set, take, drop, replicate, Option, MatchOption}
 use Rattle.spec.specs.Order.{ListBefore, First}
 use Rattle.spec.specs.RuleLayout.{most_head}
 use Rattle.codes.specs.Code.{most_slots, subgoal_size, uses_goals}
 use Rattle.task.specs.Task.{Task, Sized, goals, targets, source_relation, target_relation, width_of, last_of, Agrees, Completes}
 use Rattle.task.specs.Mapped.{Mapped}
-use Rattle.placing.specs.declared.Places.{Places}
 
 -- the one term of a place of the head
 abbrev pub head_term : Task → ℕ → ℕ
@@ -23,7 +22,7 @@ pub record HeadTask (p : Task) (h : ℕ) : Type 0 where
   pub slots : (i : ℕ) → i < h → head_term p i < most_slots
   pub apart : (i k : ℕ) → i < k → k < h → head_term p i ≡ head_term p k → ⊥
   -- "every head variable stands in the body": where the body has its targets, each place of the head has one
-  pub safe : (v : ℕ → ℕ) (l : List ℕ) → Completes p (goals p - h) h v l → (i : ℕ) → i < h → (k : ℕ) × (k < targets p) × Agrees p v i k
+  pub safe : (v : ℕ → ℕ) (l : List ℕ) → Completes p (goals p - h) h v l → (i : ℕ) → i < h → ∥ ((k : ℕ) × (k < targets p) × Agrees p v i k) ∥₁
 
 -- js are the places of the first h source subgoals in some mapping of all
 pub record RowPlaces (p : Task) (h : ℕ) (js : List ℕ) : Type 0 where
@@ -41,23 +40,24 @@ pub record PlacesWith (p : Task) (h j : ℕ) (ks js : List ℕ) : Type 0 where
   pub row : RowPlaces p h js
   pub begins : take j js ≡ take j ks
 
--- The first of the rows that are ok, or that there is none. Behind it stays what stood there before, and where there is none, all of it.
-pub record FirstRow (Ok : List ℕ → Type 0) (h : ℕ) (before : List ℕ) (r : Places) : Type 0 where
-  pub found : r.ok ≡ true → First Ok (ListBefore ◌<◌) (take h r.ks)
-  pub behind : r.ok ≡ true → drop h r.ks ≡ drop h before
-  pub none : r.ok ≡ false → (js : List ℕ) → Ok js → ⊥
-  pub kept : r.ok ≡ false → r.ks ≡ before
+-- ks begins with the first of the rows that are ok; behind it stays what stood there before.
+pub record FirstRow (Ok : List ℕ → Type 0) (h : ℕ) (before ks : List ℕ) : Type 0 where
+  pub first : First Ok (ListBefore ◌<◌) (take h ks)
+  pub behind : drop h ks ≡ drop h before
 
-abbrev pub StartPlaces : Task → ℕ → Places → Type 0
-StartPlaces p h = FirstRow (RowPlaces p h) h (replicate uses_goals 0)
+-- the first of them, or that there is none
+abbrev pub FirstOrNone : (List ℕ → Type 0) → ℕ → List ℕ → Option (List ℕ) → Type 0
+FirstOrNone Ok h before r = MatchOption r ((js : List ℕ) → Ok js → ⊥) (FirstRow Ok h before)
 
-abbrev pub NextPlaces : Task → ℕ → List ℕ → Places → Type 0
-NextPlaces p h ks = FirstRow (LaterPlaces p h ks) h ks
+abbrev pub StartPlaces : Task → ℕ → Option (List ℕ) → Type 0
+StartPlaces p h = FirstOrNone (RowPlaces p h) h (replicate uses_goals 0)
+
+abbrev pub NextPlaces : Task → ℕ → List ℕ → Option (List ℕ) → Type 0
+NextPlaces p h ks = FirstOrNone (LaterPlaces p h ks) h ks
 
 -- ks begins with a row's places
-pub record NextRowNeeds (p : Task) (h : ℕ) (ks : List ℕ) : Type 0 where
-  pub task : HeadTask p h
-  pub row : RowPlaces p h (take h ks)
+abbrev pub NextRowNeeds : Task → ℕ → List ℕ → Type 0
+NextRowNeeds p h ks = RowPlaces p h (take h ks)
 
 -- some row's places begin with js
 pub record RowFront (p : Task) (h : ℕ) (js : List ℕ) : Type 0 where
@@ -66,13 +66,11 @@ pub record RowFront (p : Task) (h : ℕ) (js : List ℕ) : Type 0 where
 
 -- the first j of ks are such
 pub record FrontNeeds (p : Task) (h j : ℕ) (ks : List ℕ) : Type 0 where
-  pub task : HeadTask p h
   pub few : j ≤ h
   pub front : RowFront p h (take j ks)
 
 -- The first j of ks are targets of the head's relation, so some row may begin with them; and whether one does.
 pub record OnTargets (p : Task) (h j : ℕ) (ks : List ℕ) : Type 0 where
-  pub task : HeadTask p h
   pub few : j ≤ h
   pub within : (i : ℕ) → i < j → get_or ks i 0 < targets p
   pub relation : (i : ℕ) → i < j → target_relation p (get_or ks i 0) ≡ source_relation p i
@@ -86,6 +84,10 @@ pub record RowGoesOn (p : Task) (h j : ℕ) (ks : List ℕ) (from k : ℕ) : Typ
   pub front : RowFront p h (take j ks ++ (k ∷ []))
 
 -- The first such place, put behind them, or that there is none.
-pub record NextPlace (p : Task) (h j : ℕ) (ks : List ℕ) (from : ℕ) (r : Places) : Type 0 where
-  pub found : r.ok ≡ true → (k : ℕ) × (r.ks ≡ set ks j k) × First (RowGoesOn p h j ks from) ◌<◌ k
-  pub none : r.ok ≡ false → (k : ℕ) → RowGoesOn p h j ks from k → ⊥
+pub record PlacePut (p : Task) (h j : ℕ) (ks : List ℕ) (from : ℕ) (front : List ℕ) : Type 0 where
+  pub place : ℕ
+  pub put : front ≡ set ks j place
+  pub first : First (RowGoesOn p h j ks from) ◌<◌ place
+
+abbrev pub NextPlace : Task → ℕ → ℕ → List ℕ → ℕ → Option (List ℕ) → Type 0
+NextPlace p h j ks from r = MatchOption r ((k : ℕ) → RowGoesOn p h j ks from k → ⊥) (PlacePut p h j ks from)

@@ -1,46 +1,37 @@
--- Bindings where a new use starts: its own slots are cleared one after the other.
-use mathlib.Core.Path.{◌≡◌, refl, ◌∙◌}
+-- Bindings where a new use starts: its own slots are cleared.
+use mathlib.Core.Path.{◌≡◌}
 use mathlib.Core.List.{List}
 use Prim.Native.Nat.{ℕ, ◌+◌, ◌<◌, ◌≤◌}
 use native.Mathlib.Omega.{arith}
 use native.Mathlib.Decide.{dec_lt}
-use lib.ListN.{length, get_or, set, length-set, get_or-eq_default}
-use lib.Seq.{get_or-set_same, get_or-set_other}
+use lib.ListN.{length, get_or, replicate, get_or-eq_default}
+use borrow.Author.Rules.{rules}
+use borrow.Rule.Slice.PartMut.{put_mid, mid_of}
+use Rattle.std.proofs.lemmas.List.{places}
 use Rattle.task.specs.Terms.{Opened}
 
--- the slots from 32 up to x are cleared
-pub record Cleared (g h : List ℕ) (x : ℕ) : Type 0 where
-  pub long : length h ≡ 64
-  pub from : 32 ≤ x
-  pub low : (y : ℕ) → y < 32 → get_or h y 0 ≡ get_or g y 0
-  pub mid : (y : ℕ) → 32 ≤ y → y < x → get_or h y 0 ≡ 0
+-- zeros in the place of all elements from n on
+module _ (n m : ℕ) (g : List ℕ) (l : length g ≡ n + m) where
+  part-long : length (mid_of n m g) ≡ m
+  part-long = search (rules, places)
 
-pub clear-start : (g : List ℕ) → length g ≡ 64 → Cleared g g 32
-clear-start g e = record { long = e; from = omega arith; low = λ y h. refl; mid = λ y h l. absurd (omega arith) }
+  zeros-long : length (put_mid n m g (replicate m 0)) ≡ n + m
+  zeros-long = search (rules, places)
 
-pub clear-more : (g h : List ℕ) (x : ℕ) → x < 64 → Cleared g h x → Cleared g (set h x 0) (x + 1)
-clear-more g h x l c =
-    record {
-      long = simp length-set c.long;
-      from = omega (arith, c.from);
-      low = λ y m. get_or-set_other h x y 0 0 (λ e. omega (arith, c.from)) ∙ c.low y m;
-      mid = λ y m n. elim (dec_lt y x) [
-        | yes o ↦ get_or-set_other h x y 0 0 (λ e. omega arith) ∙ c.mid y m o
-        | no f ↦ let e : y ≡ x = omega arith in rw e (get_or-set_same h x 0 0 (omega (arith, c.long)))
+  zeros-low : (x : ℕ) → x < n → get_or (put_mid n m g (replicate m 0)) x 0 ≡ get_or g x 0
+  zeros-low x h = grind (arith, places)
+
+  zeros-high : (x : ℕ) → n ≤ x → x < n + m → get_or (put_mid n m g (replicate m 0)) x 0 ≡ 0
+  zeros-high x h k = grind (arith, places)
+
+pub clear-own : (last : ℕ) (g own : List ℕ) → length g ≡ 64 → (last ≡ 0 → ⊥) → own ≡ replicate (length (mid_of 32 32 g)) 0 → Opened last g (put_mid 32 32 g own)
+clear-own last g own l n e =
+    rw (e, part-long 32 32 g l) record {
+      long = zeros-long 32 32 g l;
+      same = λ e. absurd (n e);
+      low = zeros-low 32 32 g l;
+      high = λ f x h. elim (dec_lt x 64) [
+        | yes i ↦ zeros-high 32 32 g l x h i
+        | no i ↦ get_or-eq_default (put_mid 32 32 g (replicate 32 0)) 0 (omega (arith, zeros-long 32 32 g l))
       ];
     }
-
-pub clear-end : (last : ℕ) (g h : List ℕ) (x : ℕ) → (last ≡ 0 → ⊥) → 64 ≤ x → Cleared g h x → Opened last g h
-clear-end last g h x f l c =
-    record {
-      long = c.long;
-      same = λ e. absurd (f e);
-      low = c.low;
-      high = λ n y m. elim (dec_lt y x) [
-        | yes o ↦ c.mid y m o
-        | no e ↦ get_or-eq_default h 0 (omega (arith, c.long))
-      ];
-    }
-
-pub clear_none : (last : ℕ) (g : List ℕ) → length g ≡ 64 → last ≡ 0 → Opened last g g
-clear_none last g l e = record { long = l; same = λ e. refl; low = λ x h. refl; high = λ n. absurd (n e) }

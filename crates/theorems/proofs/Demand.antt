@@ -14,20 +14,22 @@ use Rattle.spec.specs.Given.{answer_bytes, Given, at_front}
 use Rattle.spec.specs.Rewriting.{Rewriting}
 use Rattle.spec.specs.Refusals.{of_book}
 use Rattle.spec.specs.declared.Reason.{Reason}
-use Rattle.spec.specs.declared.Outcome.{Outcome}
-use Rattle.spec.specs.declared.Outcome.TheVariants.{Done, Refused}
+use Rattle.std.specs.Prelude.{Result, Ok, Err}
+use Rattle.spec.specs.declared.Lengths.{Lengths}
+use Rattle.spec.specs.declared.Refused.{Refused}
+use Rattle.spec.specs.declared.Refused.TheVariants.{NoRewriting}
 use Rattle.spec.proofs.Bytes.BookUnique.{book-unique}
 use Rattle.spec.proofs.Bytes.Refused.{sound-unrefused}
 use Rattle.containment.proofs.Alone.{left-out-no-say}
 use Rattle.outcomes.proofs.Demand.{given-same, given-fewer, given-few, refused_all, left-out-nine, left-out-ten, moved_back}
 use Rattle.rewriter.proofs.Unique.{rewriting-once}
 
-pub gave : {book a a₁ w w₁ : List ℕ} {n m : ℕ} → Rewriting book a a₁ w w₁ (Done n m) → Gave book a₁ n
-gave {a = a} {a₁} {n = n} x = let g = x.given in record {
+pub gave : {book a a₁ w w₁ : List ℕ} {l : Lengths} → Rewriting book a a₁ w w₁ (Ok l) → Gave book a₁ l.answer
+gave {a = a} {a₁} {l = l} x = let g = x.given in record {
   value = g.value;
   sound = g.sound;
   rows = g.result.rows;
-  stands = ap (take n) x.answer_is ∙ take_at (answer_bytes g.value.question g.result) _ n (sym x.answer_long);
+  stands = ap (take l.answer) x.answer_is ∙ take_at (answer_bytes g.value.question g.result) _ l.answer (sym x.answer_long);
   answers = g.right.answers;
   same = given-same g;
   fewer = given-fewer g;
@@ -35,7 +37,7 @@ gave {a = a} {a₁} {n = n} x = let g = x.given in record {
 }
 
 -- "where the refusal is 10, every one of any length does"
-pub gave-none : {book a a₁ w w₁ : List ℕ} → Rewriting book a a₁ w w₁ (Refused (of_book 10)) → GaveNone book
+pub gave-none : {book a a₁ w w₁ : List ℕ} → Rewriting book a a₁ w w₁ (Err NoRewriting) → GaveNone book
 gave-none {book} x = none x.refused
   where
     none : {answer witness : ℕ} → RewriterRefusal book answer witness (of_book 10) → GaveNone book
@@ -57,8 +59,8 @@ module _ {book other : List ℕ} {b c : Book} (sound : SoundBook book b) (also :
   refused-other {answer} {witness} (nine room v s f) = left-out-nine sound also answer witness question need left (nine room v s f)
   refused-other {answer} {witness} (ten room v s few never) = left-out-ten sound also answer witness question need left (ten room v s few never)
 
-  says_other : (r : Outcome) (a a₁ w w₁ : List ℕ) → Rewriting book a a₁ w w₁ r → Rewriting other a a₁ w w₁ r
-  says_other (Done n m) a a₁ w w₁ x =
+  says_other : (r : Result Lengths Refused) (a a₁ w w₁ : List ℕ) → Rewriting book a a₁ w w₁ r → Rewriting other a a₁ w w₁ r
+  says_other (Ok l) a a₁ w w₁ x =
       let g = x.given in
       let e : g.value.question ≡ c.question = ap (λ (v : Book). v.question) (book-unique g.sound sound) ∙ question in
       record {
@@ -68,7 +70,7 @@ module _ {book other : List ℕ} {b c : Book} (sound : SoundBook book b) (also :
         answer_long = x.answer_long ∙ ap (λ q. length (answer_bytes q g.result)) e;
         witness_long = x.witness_long;
       }
-  says_other (Refused r) a a₁ w w₁ x = record { refused = refused-other x.refused; answer_stays = x.answer_stays; witness_stays = x.witness_stays }
+  says_other (Err r) a a₁ w w₁ x = record { refused = refused-other x.refused; answer_stays = x.answer_stays; witness_stays = x.witness_stays }
 
-  pub left-out-alike : (r r' : Outcome) (a a₁ a₂ w w₁ w₂ : List ℕ) → Rewriting book a a₁ w w₁ r → Rewriting other a a₂ w w₂ r' → (r ≡ r') × (a₁ ≡ a₂) × (w₁ ≡ w₂)
+  pub left-out-alike : (r r' : Result Lengths Refused) (a a₁ a₂ w w₁ w₂ : List ℕ) → Rewriting book a a₁ w w₁ r → Rewriting other a a₂ w w₂ r' → (r ≡ r') × (a₁ ≡ a₂) × (w₁ ≡ w₂)
   left-out-alike r r' a a₁ a₂ w w₁ w₂ x y = rewriting-once other a w r r' a₁ a₂ w₁ w₂ (says_other r a a₁ w w₁ x) y

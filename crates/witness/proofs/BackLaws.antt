@@ -1,5 +1,6 @@
 -- The second part of the witness: the first places of the way back, as the bytes that are written.
 use mathlib.Core.Path.{◌≡◌, refl, sym, ap, ap₂, ◌∙◌}
+use Rattle.std.specs.Prelude.{Option, Some, IsSome}
 use mathlib.Core.List.{List, [], ◌∷◌, map}
 use Prim.Native.Nat.{ℕ, suc, ◌+◌, ◌<◌, ◌≤◌}
 use native.Mathlib.Omega.{arith}
@@ -11,11 +12,10 @@ use Rattle.book_codes.specs.Question.{QuestionTarget, QuestionBound}
 use Rattle.book_codes.specs.UsesLent.{SourceUsesOf}
 use Rattle.book_codes.proofs.BackTask as task
 use Rattle.placing.specs.FirstPlaces.{FirstPlaces}
-use Rattle.placing.specs.declared.Places.{Places}
 use Rattle.witness.specs.WitnessBytes.{place_bytes, PlacesNeeds}
 use Rattle.witness.specs.ThereTold.{Serves}
 use Rattle.witness.specs.BackTold.{BackOf}
-use Rattle.witness.proofs.Found.{FoundAt, found_at}
+use Rattle.witness.proofs.Found.{FoundAt, found_at, is_found}
 
 -- the places are the bytes that are written for them
 places-written : (ks l : List ℕ) (i : ℕ) → ((j : ℕ) → j < length l → get_or ks (i + j) 0 ≡ get_or l j 0) → place_bytes ks i (length l) ≡ map suc l
@@ -36,24 +36,27 @@ module _ {book source widths lasts : List ℕ} (b : Book) (l : List (Subgoal (Te
   all-few : length widths ≤ 96
   all-few = task.all-few b l o target heads
 
-  module _ (serves : Serves b l) {r : Places} (f : FirstPlaces (task.lent b l o target heads) bound r) where
-    back_found : FoundAt (task.lent b l o target heads) bound r
-    back_found = found_at f (task.back-places b l o target heads serves.back)
+  pub back-found-some : Serves b l → (r : Option (List ℕ)) → FirstPlaces (task.lent b l o target heads) bound r → IsSome r
+  back-found-some serves r f = is_found r f (task.back-places b l o target heads serves.back)
 
-    pub back-placed : {out : List ℕ} {at : ℕ} → at + 96 ≤ length out → PlacesNeeds out at r.ks (length widths)
+  module _ {r : Option (List ℕ)} {ks : List ℕ} (f : FirstPlaces (task.lent b l o target heads) bound r) (is : r ≡ Some ks) where
+    back_found : FoundAt (task.lent b l o target heads) bound ks
+    back_found = found_at f is
+
+    pub back-placed : {out : List ℕ} {at : ℕ} → at + 96 ≤ length out → PlacesNeeds out at ks (length widths)
     back-placed room = record {
       room = omega (arith, all-few);
       few = all-few;
       bytes = λ i h. omega (arith, back_found.reads i h, (back_found.first.holds.lands i h).within, own-long, few-targets);
     }
 
-    written-are : place_bytes r.ks 0 (length widths) ≡ map suc back_found.places
+    written-are : place_bytes ks 0 (length widths) ≡ map suc back_found.places
     written-are =
         let e = back_found.first.holds.long in
-        ap (place_bytes r.ks 0) (sym e)
-        ∙ places-written r.ks back_found.places 0 (λ j h. let z : 0 + j ≡ j = omega arith in ap (λ i. get_or r.ks i 0) z ∙ back_found.reads j (omega arith))
+        ap (place_bytes ks 0) (sym e)
+        ∙ places-written ks back_found.places 0 (λ j h. let z : 0 + j ≡ j = omega arith in ap (λ i. get_or ks i 0) z ∙ back_found.reads j (omega arith))
 
-    pub back-of : {out out' : List ℕ} {at : ℕ} → out' ≡ sets out at (place_bytes r.ks 0 (length widths)) → BackOf b l at out out' (length widths)
+    pub back-of : {out out' : List ℕ} {at : ℕ} → out' ≡ sets out at (place_bytes ks 0 (length widths)) → BackOf b l at out out' (length widths)
     back-of {out} {at = at} e = record {
       bytes = map suc back_found.places;
       first = task.back-firsts b l o target heads back_found.places back_found.first;

@@ -1,6 +1,7 @@
 -- The first part of the witness: the first places of the way there, as the pairs of bytes that are written.
 use mathlib.Core.Path.{◌≡◌, refl, sym, ap, ap₂, ◌∙◌}
 use mathlib.Core.Bool.{Bool, true, false, cond}
+use Rattle.std.specs.Prelude.{Option, Some, IsSome}
 use mathlib.Core.List.{List, [], ◌∷◌}
 use Prim.Native.Nat.{ℕ, suc, ◌+◌, ◌*◌, ◌-◌, ◌<◌, ◌≤◌}
 use native.Mathlib.Omega.{arith}
@@ -17,12 +18,11 @@ use Rattle.book_codes.specs.UsesLent.{InnerUsesOf}
 use Rattle.book_codes.proofs.Read.{insides-long, insides-at}
 use Rattle.book_codes.proofs.ThereTask as task
 use Rattle.placing.specs.FirstPlaces.{FirstPlaces}
-use Rattle.placing.specs.declared.Places.{Places}
 use Rattle.search_meaning.specs.Uses.{use_at, within_at, pairs_of}
 use Rattle.search_meaning.proofs.Owners.{owners-at}
 use Rattle.witness.specs.WitnessBytes.{pair_bytes, PairsNeeds}
 use Rattle.witness.specs.ThereTold.{Serves, ThereOf}
-use Rattle.witness.proofs.Found.{FoundAt, found_at}
+use Rattle.witness.proofs.Found.{FoundAt, found_at, is_found}
 
 -- the pairs of places are the bytes that are written for them
 pairs-written : {A : Type 0} (ls : List (List A)) (ks own inner : List ℕ) (l : List ℕ) (i : ℕ)
@@ -57,11 +57,14 @@ module _ {book target own inner : List ℕ} (b : Book) (l : List (Subgoal (Term 
   abbrev ls : List (List (Subgoal (Term (Own ℕ))))
   ls = uses (admitted_of b) 0 l
 
-  module _ (serves : Serves b l) {r : Places} (f : FirstPlaces (task.lent b l o.targets source heads) bound r) where
-    pub there-found : FoundAt (task.lent b l o.targets source heads) bound r
-    there-found = found_at f (task.there-places b l o.targets source heads serves.there)
+  pub there-found-some : Serves b l → (r : Option (List ℕ)) → FirstPlaces (task.lent b l o.targets source heads) bound r → IsSome r
+  there-found-some serves r f = is_found r f (task.there-places b l o.targets source heads serves.there)
 
-    place-within : (i : ℕ) → i < n → (get_or r.ks i 0 ≡ get_or there-found.places i 0) × (get_or there-found.places i 0 < length own)
+  module _ {r : Option (List ℕ)} {ks : List ℕ} (f : FirstPlaces (task.lent b l o.targets source heads) bound r) (is : r ≡ Some ks) where
+    pub there-found : FoundAt (task.lent b l o.targets source heads) bound ks
+    there-found = found_at f is
+
+    place-within : (i : ℕ) → i < n → (get_or ks i 0 ≡ get_or there-found.places i 0) × (get_or there-found.places i 0 < length own)
     place-within i h = let h' : i < length (take n new) = rw (task.goals-are b l o.targets source heads) h in (there-found.reads i h', (there-found.first.holds.lands i h').within)
 
     insides-same : length inner ≡ length own
@@ -76,7 +79,7 @@ module _ {book target own inner : List ℕ} (b : Book) (l : List (Subgoal (Term 
       | no h ↦ omega (arith, get_or-eq_default inner 0 {n = k} (omega (arith, task.owned b l o.targets source heads, insides-same)))
     ]
 
-    pub there-paired : {out : List ℕ} → 2 * question_most ≤ length out → PairsNeeds out r.ks own inner n
+    pub there-paired : {out : List ℕ} → 2 * question_most ≤ length out → PairsNeeds out ks own inner n
     there-paired room = record {
       room = omega (arith, task.few-goals b l o.targets source heads);
       few = omega (arith, task.few-goals b l o.targets source heads);
@@ -87,13 +90,13 @@ module _ {book target own inner : List ℕ} (b : Book) (l : List (Subgoal (Term 
     places-long : length there-found.places ≡ n
     places-long = there-found.first.holds.long ∙ task.goals-are b l o.targets source heads
 
-    written-are : pair_bytes r.ks own inner 0 n ≡ pairs_of ls there-found.places
+    written-are : pair_bytes ks own inner 0 n ≡ pairs_of ls there-found.places
     written-are =
-        ap (pair_bytes r.ks own inner 0) (sym places-long)
-        ∙ pairs-written ls r.ks own inner there-found.places 0 (λ k h. (ap (λ m. get_or m k 0) o.targets.owns ∙ omega (arith, owners-at 0 ls k h), inner-at k h))
-        (λ j h. let p = place-within j (omega (arith, places-long)) in let z : 0 + j ≡ j = omega arith in (ap (λ i. get_or r.ks i 0) z ∙ p.0, omega (arith, p.1, task.owned b l o.targets source heads)))
+        ap (pair_bytes ks own inner 0) (sym places-long)
+        ∙ pairs-written ls ks own inner there-found.places 0 (λ k h. (ap (λ m. get_or m k 0) o.targets.owns ∙ omega (arith, owners-at 0 ls k h), inner-at k h))
+        (λ j h. let p = place-within j (omega (arith, places-long)) in let z : 0 + j ≡ j = omega arith in (ap (λ i. get_or ks i 0) z ∙ p.0, omega (arith, p.1, task.owned b l o.targets source heads)))
 
-    pub there-of : {out out' : List ℕ} → out' ≡ sets out 0 (pair_bytes r.ks own inner 0 n) → ThereOf b l out out' (2 * n)
+    pub there-of : {out out' : List ℕ} → out' ≡ sets out 0 (pair_bytes ks own inner 0 n) → ThereOf b l out out' (2 * n)
     there-of {out} e = record {
       bytes = pairs_of ls there-found.places;
       first = task.there-firsts b l o.targets source heads there-found.places there-found.first;

@@ -10,12 +10,10 @@ pub fn put_pairs(out: &mut [u8], ks: &[u16; USES_GOALS], own: &[u8], inner: &[u8
     requires { PairsNeeds out.old ks.now own.now inner.now n }
     ensures { out.new ≡ sets out.old 0 (pair_bytes ks.now own.now inner.now 0 n) }
 {
-    let mut i: usize = 0;
-    while i < n {
+    for i in 0..n {
         let k = ks[i] as usize;
         out[2 * i] = own[k] + 1;
         out[2 * i + 1] = inner[k] + 1;
-        i += 1;
     }
 }
 
@@ -24,9 +22,7 @@ pub fn put_places(out: &mut [u8], at: usize, ks: &[u16; USES_GOALS], n: usize)
     requires { PlacesNeeds out.old at ks.now n }
     ensures { out.new ≡ sets out.old at (place_bytes ks.now 0 n) }
 {
-    let mut i: usize = 0;
-    while i < n {
+    for i in 0..n {
         out[at + i] = (ks[i] % 255) as u8 + 1;
-        i += 1;
     }
 }

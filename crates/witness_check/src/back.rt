@@ -2,40 +2,29 @@
 ghost use Rattle.std.specs.Prelude.{◌≤◌, length};
 ghost use Rattle.codes.specs.Code.{uses_goals};
 ghost use Rattle.book_codes.specs.FewRows.{FewRows};
+ghost use Rattle.book_codes.specs.OfRows.{of_rows};
 ghost use Rattle.book_codes.specs.UsesLent.{SourceUses};
 ghost use Rattle.witness_check.specs.WayBack.Confirms.{BackCheckSays};
-ghost use Rattle.witness_check.specs.WayBack.Places.{Before, BytePlaces};
+ghost use Rattle.witness_check.specs.WayBack.Places.{BytesNamed};
 ghost use Rattle.witness_check.specs.WayBack.Steps.{BackAlongSays};
 
-use crate::NOWHERE;
 use book_codes::question::{question_bindings, question_target};
-use book_codes::uses::expand_back;
+use book_codes::uses::BookRows;
 use codes::{QUESTION_CODES, SUBGOAL_CODES, USES_CODES, USES_GOALS};
 use spec::QUESTION_GOALS;
+use task::Task;
 use task::pass::follows;
 
-// "All count from 1": the place, from 0, that a byte names, or one that is past them all.
-fn before(x: u8) -> u16
-    ensures { Before x result }
-{
-    if x < 1 {
-        return NOWHERE;
-    }
-    (x - 1) as u16
-}
-
-// The places that the bytes name.
-fn byte_places(witness: &[u8]) -> [u16; USES_GOALS]
+// The places that the bytes name; none where one of them is 0: "All count from 1".
+fn byte_places(witness: &[u8]) -> Option<[u16; USES_GOALS]>
     requires { length witness.now ≤ uses_goals }
-    ensures { BytePlaces witness.now (length witness.now) result }
+    ensures { BytesNamed witness.now result }
 {
     let mut ks = [0u16; USES_GOALS];
-    let mut i: usize = 0;
-    while i < witness.len() {
-        ks[i] = before(witness[i]);
-        i += 1;
+    for (i, byte) in witness.iter().enumerate() {
+        ks[i] = byte.checked_sub(1)? as u16;
     }
-    ks
+    Some(ks)
 }
 
 // Over the codes of the uses.
@@ -44,35 +33,36 @@ fn back_along(book: &[u8], source: &[u64], widths: &[u8], lasts: &[u8], witness:
     ensures { BackAlongSays book.now source.now widths.now lasts.now witness.now result }
 {
     if witness.len() != widths.len() {
-        return false;
+        return false; // another length
     }
     let mut target = [0u64; QUESTION_CODES];
     let n = question_target(book, &mut target);
     let own = [0u8; QUESTION_GOALS];
     let b = question_bindings(book);
-    let ks = byte_places(witness);
-    follows(
+    let Some(ks) = byte_places(witness) else {
+        return false; // a byte that names nothing
+    };
+    let task = Task {
         source,
         widths,
         lasts,
-        &target[..SUBGOAL_CODES * n],
-        &own[..n],
-        b,
-        &ks,
-    )
+        target: &target[..SUBGOAL_CODES * n],
+        own: &own[..n],
+    };
+    follows(&task, b, &ks)
 }
 
-// Whether the bytes are the second part of a witness of k rows.
-pub fn comes_back(book: &[u8], rows: &[u64], k: usize, witness: &[u8]) -> bool
-    requires { FewRows book.now rows.now k }
-    ensures { BackCheckSays book.now rows.now k witness.now result }
+// Whether the bytes are the second part of a witness of the rows.
+pub fn comes_back(rows: &BookRows, witness: &[u8]) -> bool
+    requires { of_rows FewRows rows.now }
+    ensures { of_rows BackCheckSays rows.now witness.now result }
 {
     let mut source = [0u64; USES_CODES];
     let mut widths = [0u8; USES_GOALS];
     let mut lasts = [0u8; USES_GOALS];
-    let goals = expand_back(book, rows, k, &mut source, &mut widths, &mut lasts);
+    let goals = rows.expand_back(&mut source, &mut widths, &mut lasts);
     back_along(
-        book,
+        rows.book,
         &source[..SUBGOAL_CODES * goals],
         &widths[..goals],
         &lasts[..goals],

@@ -3,6 +3,3 @@
 
 pub mod back; // from the rewriting's expansion to the question
 pub mod there; // from the question to the rewriting's expansion
-
-// A place that is past all targets: what bytes that name nothing become.
-const NOWHERE: u16 = 65535;

@@ -3,57 +3,56 @@
 ghost use Rattle.std.specs.Prelude.{◌*◌, ◌<◌, ◌≤◌, length};
 ghost use Rattle.spec.specs.BookLayout.{question_most};
 ghost use Rattle.book_codes.specs.FewRows.{FewRows};
+ghost use Rattle.book_codes.specs.OfRows.{of_rows};
 ghost use Rattle.witness_check.specs.WayThere.Confirms.{ThereCheckSays};
-ghost use Rattle.witness_check.specs.WayThere.Places.{PlaceOf, PairPlaces};
+ghost use Rattle.witness_check.specs.WayThere.Places.{PlaceOf, PairsNamed};
 ghost use Rattle.witness_check.specs.WayThere.Steps.{ThereAlongNeeds, ThereAlongSays};
 
-use crate::NOWHERE;
 use book_codes::question::{question_bindings, question_source};
-use book_codes::uses::{expand, use_starts};
+use book_codes::uses::BookRows;
 use codes::{QUESTION_CODES, SUBGOAL_CODES, USES_CODES, USES_GOALS};
 use spec::QUESTION_GOALS;
-use task::pass::{follows, wide};
+use task::Task;
+use task::pass::follows;
 
-// The place among all subgoals of a pair of bytes, or one that is past them all. Between the beginnings of two uses lies the first one's own.
-fn place_of(starts: &[u16; QUESTION_GOALS + 1], k: usize, row: u8, inner: u8) -> u16
+// The place among all subgoals that a pair of bytes names. Between the beginnings of two uses lies the first one's own.
+fn place_of(starts: &[u16; QUESTION_GOALS + 1], k: usize, row: u8, inner: u8) -> Option<u16>
     requires { k ≤ question_most }
     ensures { PlaceOf starts.now k row inner result }
 {
     let of = row as usize;
     let within = inner as usize;
     if of < 1 {
-        return NOWHERE;
+        return None;
     }
     if k < of {
-        return NOWHERE;
+        return None;
     }
     if within < 1 {
-        return NOWHERE;
+        return None;
     }
-    let place = wide(starts[of - 1]) + (within - 1);
-    if place < wide(starts[of]) {
-        return place as u16;
+    let place = starts[of - 1] as usize + (within - 1);
+    if place < starts[of] as usize {
+        return Some(place as u16);
     }
-    NOWHERE
+    None
 }
 
-// The places of n pairs.
+// The places of n pairs; none where one of them names nothing.
 fn pair_places(
     witness: &[u8],
     starts: &[u16; QUESTION_GOALS + 1],
     k: usize,
     n: usize,
-) -> [u16; USES_GOALS]
+) -> Option<[u16; USES_GOALS]>
     requires { (k ≤ question_most) × (n ≤ question_most) × (2 * n ≤ length witness.now) }
-    ensures { PairPlaces witness.now starts.now k n result }
+    ensures { PairsNamed witness.now starts.now k n result }
 {
     let mut ks = [0u16; USES_GOALS];
-    let mut i: usize = 0;
-    while i < n {
-        ks[i] = place_of(starts, k, witness[2 * i], witness[2 * i + 1]);
-        i += 1;
+    for i in 0..n {
+        ks[i] = place_of(starts, k, witness[2 * i], witness[2 * i + 1])?;
     }
-    ks
+    Some(ks)
 }
 
 // Over the codes of the uses of k rows.
@@ -76,35 +75,36 @@ fn there_along(
     }
     let lasts = [0u8; QUESTION_GOALS];
     let b = question_bindings(book);
-    let ks = pair_places(witness, starts, k, n);
-    follows(
-        &source[..SUBGOAL_CODES * n],
-        &widths[..n],
-        &lasts[..n],
+    let Some(ks) = pair_places(witness, starts, k, n) else {
+        return false; // a pair that names nothing
+    };
+    let task = Task {
+        source: &source[..SUBGOAL_CODES * n],
+        widths: &widths[..n],
+        lasts: &lasts[..n],
         target,
         own,
-        b,
-        &ks,
-    )
+    };
+    follows(&task, b, &ks)
 }
 
-// Whether the bytes are the first part of a witness of k rows.
-pub fn goes_there(book: &[u8], rows: &[u64], k: usize, witness: &[u8]) -> bool
-    requires { FewRows book.now rows.now k }
-    ensures { ThereCheckSays book.now rows.now k witness.now result }
+// Whether the bytes are the first part of a witness of the rows.
+pub fn goes_there(rows: &BookRows, witness: &[u8]) -> bool
+    requires { of_rows FewRows rows.now }
+    ensures { of_rows ThereCheckSays rows.now witness.now result }
 {
     let mut target = [0u64; USES_CODES];
     let mut own = [0u8; USES_GOALS];
     let mut inner = [0u8; USES_GOALS];
-    let goals = expand(book, rows, k, &mut target, &mut own, &mut inner);
+    let goals = rows.expand(&mut target, &mut own, &mut inner);
     let mut starts = [0u16; QUESTION_GOALS + 1];
-    use_starts(book, rows, k, &mut starts);
+    rows.use_starts(&mut starts);
     there_along(
-        book,
+        rows.book,
         &target[..SUBGOAL_CODES * goals],
         &own[..goals],
         &starts,
-        k,
+        rows.count,
         witness,
     )
 }

@@ -18,8 +18,8 @@ returns-then-distance-le-HIGHEST_LEAD c =
     let a = c.args in
     low a.need a.stamp steps.result (λ e. omega arith) (λ e. omega arith) steps.ensures (omega arith)
 
-pub overflow_sub-lead : goal.overflow_sub-lead
-overflow_sub-lead c =
+pub overflow_sub-result : goal.overflow_sub-result
+overflow_sub-result c =
     let steps = c.steps-distance in
     behind-fits steps.result (omega (arith, steps.ensures)) (omega arith)
 

@@ -4,9 +4,9 @@ use Rattle.checker.proofs.check.Goals as goal
 pub check_sound-requires : goal.check_sound-requires
 check_sound-requires c =
     let read-book = c.read_book in
-    read-sound read-book.ensures c.in-Sound.is
+    read-sound read-book.ensures c.in-Ok.is
 
-pub returns-in-Refused : goal.returns-in-Refused
-returns-in-Refused c =
+pub returns-in-Err : goal.returns-in-Err
+returns-in-Err c =
     let read-book = c.read_book in
-    read-refused read-book.ensures c.in-Refused.is
+    read-refused read-book.ensures c.in-Err.is

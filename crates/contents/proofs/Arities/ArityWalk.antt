@@ -1,26 +1,31 @@
 -- How the walk over the arities finds out "1 to 32 bytes, each an arity 1 to 8".
+use mathlib.Core.Path.{◌≡◌}
+use mathlib.Core.Bool.{Bool, true, false}
+use mathlib.Core.Logic.{◌⊎◌, ⊎_elim}
 use mathlib.Core.List.{List}
-use Prim.Native.Nat.{ℕ, ◌+◌, ◌<◌, ◌≤◌}
+use Prim.Native.Nat.{ℕ, ◌<◌, ◌≤◌}
 use native.Mathlib.Omega.{arith}
 use lib.ListN.{length, get_or}
-use borrow.Author.Count.{below_more}
+use Rattle.std.specs.Bool.{MatchBool}
+use Rattle.std.specs.List.{AllWithin, HoldsAt}
 use Rattle.spec.specs.BookLayout.{Arities}
 use Rattle.spec.proofs.Lists.At.{get_or-in, in-get_or}
 
--- Each byte below i is an arity.
-pub record AritiesInRange (part : List ℕ) (i : ℕ) : Type 0 where
-  pub range : (k : ℕ) → k < i → (1 ≤ get_or part k 0) × (get_or part k 0 ≤ 8)
+abbrev pub InRange : ℕ → Type 0
+InRange a = (1 ≤ a) × (a ≤ 8)
+
+abbrev pub OutOfRange : ℕ → Type 0
+OutOfRange a = (a < 1) ⊎ (8 < a)
+
+-- What `any` answers of a byte out of range.
+abbrev pub Walked : List ℕ → Bool → Type 0
+Walked part r = MatchBool r ((k : ℕ) × (k < length part) × HoldsAt OutOfRange part k) (AllWithin InRange part 0 (length part))
 
 module _ (part : List ℕ) where
-  pub range_none : AritiesInRange part 0
-  range_none = record { range = λ k h. absurd (omega arith) }
+  pub out-of-range : (r : Bool) → r ≡ true → Walked part r → Arities part → ⊥
+  out-of-range true e w a = let h = a.range (get_or part w.0 0) (get_or-in 0 part w.0 w.1) in ⊎_elim (λ l. omega arith) (λ l. omega arith) (w.2 0)
+  out-of-range false e w a = cc
 
-  pub range-more : (i : ℕ) → AritiesInRange part i → 1 ≤ get_or part i 0 → get_or part i 0 ≤ 8 → AritiesInRange part (i + 1)
-  range-more i f l h = record { range = below_more _ _ f.range (l, h) }
-
-  pub in-range : (i : ℕ) → 1 ≤ length part → length part ≤ 32 → length part ≤ i → AritiesInRange part i → Arities part
-  in-range i l h e f = record { some = l; few = h; range = λ a m. let p = in-get_or 0 _ m in let r = f.range p.0 (omega arith) in (omega arith, omega arith) }
-
-  -- An arity's range at a place of the list.
-  pub arity-at : (i : ℕ) → i < length part → Arities part → (1 ≤ get_or part i 0) × (get_or part i 0 ≤ 8)
-  arity-at i h w = w.range (get_or part i 0) (get_or-in 0 part i h)
+  pub in-range : (r : Bool) → r ≡ false → Walked part r → 1 ≤ length part → length part ≤ 32 → Arities part
+  in-range true e w l h = cc
+  in-range false e w l h = record { some = l; few = h; range = λ a m. let p = in-get_or 0 _ m in let r = w p.0 0 (omega arith) p.1 in (omega arith, omega arith) }

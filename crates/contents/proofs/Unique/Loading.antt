@@ -3,23 +3,24 @@
 use mathlib.Core.Path.{◌≡◌, ap, sym, ◌∙◌}
 use mathlib.Core.List.{List, List-discrete}
 use Prim.Native.Nat.{ℕ, ◌<◌}
+use Rattle.std.specs.Prelude.{Result, Ok, Err}
 use native.Mathlib.Decide.{ℕ_discrete}
 use Rattle.spec.specs.Contents.{entries_in}
 use Rattle.spec.specs.Refusals.{Loads}
 use Rattle.spec.specs.EntryPart.{Lent, LiesIn, EntryPart}
 use Rattle.spec.specs.Loading.{LoadSays}
-use Rattle.spec.specs.declared.Loaded.{Loaded}
-use Rattle.spec.specs.declared.Loaded.TheVariants.{Good, Refused}
+use Rattle.spec.specs.declared.Refused.{Refused}
 use Rattle.spec.proofs.Bytes.FirstFaults.{loads-unrefused}
 use Rattle.spec.proofs.Bytes.RefusedOnce.{refused-once}
 use Rattle.spec.proofs.Lists.Finite.{positive}
+use Rattle.spec.proofs.Told.{told-once}
 
 -- `load`
-pub load-unique : (book : List ℕ) (r s : Loaded) → LoadSays book r → LoadSays book s → r ≡ s
-load-unique book (Good n) (Good m) p q = ap Good (p.1 ∙ sym q.1)
-load-unique book (Good n) (Refused r) p q = absurd (loads-unrefused book p.0 q.0 q.1)
-load-unique book (Refused r) (Good n) p q = absurd (loads-unrefused book q.0 p.0 p.1)
-load-unique book (Refused r) (Refused s) p q = ap Refused (refused-once book p.0 q.0)
+pub load-unique : (book : List ℕ) (r s : Result ℕ Refused) → LoadSays book r → LoadSays book s → r ≡ s
+load-unique book (Ok n) (Ok m) p q = ap Ok (p.1 ∙ sym q.1)
+load-unique book (Ok n) (Err e) p q = absurd (loads-unrefused book p.0 q.0 q.1)
+load-unique book (Err e) (Ok n) p q = absurd (loads-unrefused book q.0 p.0 p.1)
+load-unique book (Err e) (Err f) p q = ap Err (told-once e f (refused-once book p.0 q.0))
 
 -- Two parts that lie in the book at one place and hold the same bytes.
 pub record Same (p q : Lent) : Type 0 where

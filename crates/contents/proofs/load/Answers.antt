@@ -1,67 +1,42 @@
-use Rattle.spec.specs.Refusals.{four, five}
-use Rattle.contents.proofs.Entries.Answers.{passed, faulty}
-use Rattle.contents.proofs.Sizes.{told, too_short, too_long, right-size, few-counted, few-said, too_many}
+use mathlib.Core.Path.{refl}
+use mathlib.Core.Logic.{⊎_elim}
+use native.Mathlib.Omega.{arith}
+use Rattle.std.proofs.lemmas.Result.{err_from_is_err_and}
+use Rattle.spec.specs.Refusals.{two, three, four, five}
+use Rattle.contents.proofs.Sizes.{too_short, too_long, right-size, few-counted, few-said}
 use Rattle.contents.proofs.load.Goals as goal
 
 pub returns-then-size-lt2 : goal.returns-then-size-lt2
 returns-then-size-lt2 c =
-    let of-book = c.of_book in
-    let if1 = c.if-size-lt2 in
-    let a = c.args in
-    told a.book.now of-book.ensures (too_short a.book.now if1.true)
-
-pub returns-then-size-gt-LONGEST_BOOK : goal.returns-then-size-gt-LONGEST_BOOK
-returns-then-size-gt-LONGEST_BOOK c =
-    let of-book2 = c.of_book-then-size-gt-LONGEST_BOOK in
-    let if2 = c.if-size-gt-LONGEST_BOOK in
-    let a = c.args in
-    told a.book.now of-book2.ensures (too_long a.book.now if2.true)
+    let book = c.args.book.now in
+    (two (⊎_elim (too_short book) (λ h. too_long book h.1) c.then-size-lt2.either), refl)
 
 pub returns-then-n-gt-MOST_SUMMARIES : goal.returns-then-n-gt-MOST_SUMMARIES
-returns-then-n-gt-MOST_SUMMARIES c =
-    let of-book3 = c.of_book-then-n-gt-MOST_SUMMARIES in
-    let if3 = c.if-n-gt-MOST_SUMMARIES in
-    let count_of = c.count_of-n in
-    let if2 = c.if-size-gt-LONGEST_BOOK in
-    let if1 = c.if-size-lt2 in
-    let a = c.args in
-    told a.book.now of-book3.ensures (too_many a.book.now _ (right-size a.book.now if1.false if2.false) count_of.ensures if3.true)
+returns-then-n-gt-MOST_SUMMARIES c = (three (right-size c.args.book.now (omega arith) (omega arith)) (omega arith), refl)
 
-pub returns-in_default : goal.returns-in_default
-returns-in_default c =
-    let of-book4 = c.of_book-in_default in
-    let no_gaps = c.no_gaps in
-    let if3 = c.if-n-gt-MOST_SUMMARIES in
-    let count_of = c.count_of-n in
-    let if2 = c.if-size-gt-LONGEST_BOOK in
-    let if1 = c.if-size-lt2 in
-    let a = c.args in
-    told a.book.now of-book4.ensures (four (right-size a.book.now if1.false if2.false) (few-counted a.book.now _ count_of.ensures if3.false) (faulty _ _ no_gaps.result c.in_default.is no_gaps.ensures))
+pub returns-in_err-no_gaps : goal.returns-in_err-no_gaps
+returns-in_err-no_gaps c =
+    let book = c.args.book.now in
+    let p = err_from_is_err_and c.from_residual.result c.from_residual.ensures.1 in
+    let fault = c.in_err-no_gaps.ensures in
+    rw (p.1, p.2, fault.1) (four (right-size book (omega arith) (omega arith)) (few-counted book _ c.count_of-n.ensures (omega arith)) fault.0, refl)
 
-pub right_relations-requires : goal.right_relations-requires
-right_relations-requires c =
-    let no_gaps = c.no_gaps in
-    passed _ _ no_gaps.result c.in-Passed.is no_gaps.ensures
-
-pub returns-in_default-right_relations : goal.returns-in_default-right_relations
-returns-in_default-right_relations c =
-    let of-book5 = c.of_book-in_default-right_relations in
-    let right-relations = c.right_relations in
-    let no_gaps = c.no_gaps in
-    let if3 = c.if-n-gt-MOST_SUMMARIES in
-    let count_of = c.count_of-n in
-    let if2 = c.if-size-gt-LONGEST_BOOK in
-    let if1 = c.if-size-lt2 in
-    let a = c.args in
-    told a.book.now of-book5.ensures (five (right-size a.book.now if1.false if2.false) (few-counted a.book.now _ count_of.ensures if3.false) (passed _ _ no_gaps.result c.in-Passed.is no_gaps.ensures) (faulty _ _ right-relations.result c.in_default-right_relations.is right-relations.ensures))
+pub returns-in_err-right_relations : goal.returns-in_err-right_relations
+returns-in_err-right_relations c =
+    let book = c.args.book.now in
+    let p = err_from_is_err_and c.from_residual-in_err-right_relations.result c.from_residual-in_err-right_relations.ensures.1 in
+    let fault = c.in_err-right_relations.ensures in
+    rw (p.1, p.2, fault.1)
+    (five (right-size book (omega arith) (omega arith)) (few-counted book _ c.count_of-n.ensures (omega arith)) c.in_ok-no_gaps.ensures fault.0, refl)
 
 pub returns : goal.returns
 returns c =
-    let right-relations = c.right_relations in
-    let no_gaps = c.no_gaps in
-    let if3 = c.if-n-gt-MOST_SUMMARIES in
-    let count_of = c.count_of-n in
-    let if2 = c.if-size-gt-LONGEST_BOOK in
-    let if1 = c.if-size-lt2 in
-    let a = c.args in
-    (record { size = right-size a.book.now if1.false if2.false; few = few-said a.book.now _ count_of.ensures if3.false; no_gaps = passed _ _ no_gaps.result c.in-Passed.is no_gaps.ensures; relations = passed _ _ right-relations.result c.in-Passed-right_relations.is right-relations.ensures }, count_of.ensures)
+    let book = c.args.book.now in (
+      record {
+        size = right-size book (omega arith) (omega arith);
+        few = few-said book _ c.count_of-n.ensures (omega arith);
+        no_gaps = c.in_ok-no_gaps.ensures;
+        relations = c.in_ok-right_relations.ensures;
+      },
+      c.count_of-n.ensures,
+    )

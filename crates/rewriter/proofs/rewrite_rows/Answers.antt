@@ -1,17 +1,8 @@
-use Rattle.rewriter.proofs.RefusedLaws.{turned-down-by, chosen-put, none-do}
+use Rattle.rewriter.proofs.RefusedLaws.{turned_down, chosen-put, none-do}
 use Rattle.rewriter.proofs.rewrite_rows.Goals as goal
 
-pub put_chosen-long-requires : goal.put_chosen-long-requires
-put_chosen-long-requires c =
-    let if1 = c.if-chosen in
-    let choose-rows = c.choose_rows-chosen in
-    let w = c.requires in
-    chosen-put w choose-rows.ensures if1.true
+pub put_chosen-requires : goal.put_chosen-requires
+put_chosen-requires c = chosen-put c.requires c.choose_rows.ensures c.in-Some.is
 
-pub returns : goal.returns
-returns c =
-    let of-book = c.of_book in
-    let if1 = c.if-chosen in
-    let choose-rows = c.choose_rows-chosen in
-    let w = c.requires in
-    turned-down-by of-book.ensures (none-do w choose-rows.ensures if1.false)
+pub returns-in_default : goal.returns-in_default
+returns-in_default c = turned_down (none-do c.requires c.choose_rows.ensures c.in_default.is)

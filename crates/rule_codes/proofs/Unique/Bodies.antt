@@ -10,7 +10,7 @@ use lib.ListN.{length, get_or}
 use lib.Seq.{ext_get_or}
 use Rattle.spec.specs.Words.{◌∈◌, Term, var, con, Subgoal}
 use Rattle.spec.specs.Summaries.{Summaries, Own}
-use Rattle.rule_codes.specs.Laid.{Laid, UseFor, QuestionLaid}
+use Rattle.rule_codes.specs.Laid.{Laid, LaidOver, UseOver}
 use Rattle.rule_codes.specs.BodyTerms.{BodyTerms}
 use Rattle.rule_codes.specs.Heads.{HeadCodes, HeadBindings}
 use Rattle.rule_codes.specs.Uses.{UseCodes}
@@ -51,7 +51,7 @@ module _ {bytes a b : List ℕ} (l : Laid bytes) where
       at x (yes i) = t.shown l.arities l.most l.rule l.layout x i ∙ sym (u.shown l.arities l.most l.rule l.layout x i)
       at x (no f) = t.other l.arities l.most l.rule l.layout x f ∙ sym (u.other l.arities l.most l.rule l.layout x f)
 
-pub use-codes-unique : {arities bytes row before after other : List ℕ} {area u n m : ℕ} {code : Term (Own ℕ) → ℕ} → UseFor arities bytes row area
+pub use-codes-unique : {arities bytes row before after other : List ℕ} {u n m : ℕ} {code : Term (Own ℕ) → ℕ} → UseOver arities bytes row
     → UseCodes arities bytes row code u before after n → UseCodes arities bytes row code u before other m → (after ≡ other) × (n ≡ m)
 use-codes-unique {u = u} w a b =
     (a.codes w.rule s g w.is refl ∙ sym (b.codes w.rule s g w.is refl), a.count w.rule w.terms w.is ∙ sym (b.count w.rule w.terms w.is))
@@ -63,5 +63,5 @@ use-codes-unique {u = u} w a b =
     g : Subgoal (Term ℕ)
     g = record { relation = 1; terms = w.terms }
 
-pub body-terms-unique : {arities bytes before after other : List ℕ} {n m : ℕ} → QuestionLaid arities bytes → BodyTerms arities bytes before after n → BodyTerms arities bytes before other m → (after ≡ other) × (n ≡ m)
-body-terms-unique q a b = in-order-unique (a.terms 12 q.rule q.layout) (b.terms 12 q.rule q.layout)
+pub body-terms-unique : {arities bytes before after other : List ℕ} {n m : ℕ} → LaidOver arities bytes → BodyTerms arities bytes before after n → BodyTerms arities bytes before other m → (after ≡ other) × (n ≡ m)
+body-terms-unique q a b = in-order-unique (a.terms q.most q.rule q.layout) (b.terms q.most q.rule q.layout)

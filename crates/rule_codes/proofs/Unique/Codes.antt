@@ -6,7 +6,7 @@ use native.Mathlib.Omega.{arith}
 use lib.ListN.{length}
 use lib.Seq.{ext_get_or}
 use Rattle.spec.specs.Words.{Term}
-use Rattle.rule_codes.specs.Laid.{Laid, LaidFor, SomeUse}
+use Rattle.rule_codes.specs.Laid.{Laid, LaidOver, SomeUse}
 use Rattle.rule_codes.specs.Promises.{HeadCount, GoalCount, BodyCodes, BodyWidths}
 use Rattle.rule_codes.specs.Steps.{SomeTerm, SomeTerms, CodeAt, PaddedAt}
 use Rattle.rule_codes.specs.Tables.{BaseTable, UseTable}
@@ -24,7 +24,7 @@ code-unique t a b = a.is t.term t.here ∙ sym (b.is t.term t.here)
 pub padded-unique : {bytes table : List ℕ} {at many k n m : ℕ} → SomeTerms bytes at many → PaddedAt bytes at many k table n → PaddedAt bytes at many k table m → n ≡ m
 padded-unique t a b = a.is t.terms t.here ∙ sym (b.is t.terms t.here)
 
-module _ {arities bytes before after other : List ℕ} {each area n m : ℕ} (l : LaidFor arities bytes each area) where
+module _ {arities bytes before after other : List ℕ} {n m : ℕ} (l : LaidOver arities bytes) where
   pub codes-unique : {code : Term ℕ → ℕ} → BodyCodes arities bytes code before after n → BodyCodes arities bytes code before other m → (after ≡ other) × (n ≡ m)
   codes-unique a b =
       (a.codes l.most l.rule l.layout ∙ sym (b.codes l.most l.rule l.layout), a.count l.most l.rule l.layout ∙ sym (b.count l.most l.rule l.layout))

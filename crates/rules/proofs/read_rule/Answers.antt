@@ -1,44 +1,63 @@
 use mathlib.Core.Path.{◌∙◌}
 use native.Mathlib.Omega.{arith}
-use Rattle.rules.proofs.RuleSteps.{no_bytes, bad-heads, one_byte, no-goals, many_goals, head-stops, head-place, goals-stop, bytes-over, all_read}
+use Rattle.rules.proofs.RuleSteps.{Counts, no_bytes, bad-heads, one_byte, bad-goals, head-stops, head-place, goals-stop, bytes-over, all_read}
 use Rattle.rules.proofs.read_rule.Goals as goal
-
-pub returns-then-body-lt1 : goal.returns-then-body-lt1
-returns-then-body-lt1 c = let a = c.args in no_bytes a.relations.now a.most a.body.now c.if-body-lt1.true
-
-pub returns-then-heads-gt-MOST_HEAD : goal.returns-then-heads-gt-MOST_HEAD
-returns-then-heads-gt-MOST_HEAD c = let a = c.args in bad-heads a.relations.now a.most a.body.now _ c.wide-heads.ensures.0 (omega arith) c.if-heads-gt-MOST_HEAD.true
-
-pub returns-then-body-lt2 : goal.returns-then-body-lt2
-returns-then-body-lt2 c = let a = c.args in one_byte a.relations.now a.most a.body.now _ c.wide-heads.ensures.0 (omega arith) (omega arith) c.if-body-lt2.true
-
-pub returns-then-goals-lt1 : goal.returns-then-goals-lt1
-returns-then-goals-lt1 c = let a = c.args in no-goals a.relations.now a.most a.body.now _ _ c.wide-heads.ensures.0 c.wide-goals.ensures.0 (omega arith) (omega arith) c.if-goals-lt1.true
-
-pub returns-then-most-goals : goal.returns-then-most-goals
-returns-then-most-goals c = let a = c.args in many_goals a.relations.now a.most a.body.now _ _ c.wide-heads.ensures.0 c.wide-goals.ensures.0 (omega arith) (omega arith) (omega arith) c.if-most-goals.true
+use Rattle.rules.proofs.read_rule.Goals.{After-from-goals}
 
 pub returns-in_default : goal.returns-in_default
-returns-in_default c =
-    let a = c.args in
-    c.stopped.ensures ∙ head-stops a.relations.now a.most a.body.now _ _ c.wide-heads.ensures.0 c.wide-goals.ensures.0 (omega arith) (omega arith) (omega arith) (omega arith) _ _ _ c.unnoted.ensures c.read_terms-head.ensures c.in_default.is
+returns-in_default c = let a = c.args in no_bytes a.relations.now a.most a.body.now (let h = c.in_default.ensures.item.3 in omega arith)
 
-pub read_subgoals-rest-requires : goal.read_subgoals-rest-requires
-read_subgoals-rest-requires c =
+pub returns-then-heads-gt-MOST_HEAD : goal.returns-then-heads-gt-MOST_HEAD
+returns-then-heads-gt-MOST_HEAD c =
     let a = c.args in
-    head-place a.relations.now a.most a.body.now _ _ c.wide-heads.ensures.0 c.wide-goals.ensures.0 (omega arith) (omega arith) (omega arith) (omega arith) _ _ _ _ c.unnoted.ensures c.read_terms-head.ensures c.in-Next.is
+    let here = c.in-Some.ensures.item.3 in
+    bad-heads a.relations.now a.most a.body.now _ (c.from-heads.ensures ∙ here.1 0) here.0 c.if-heads-gt-MOST_HEAD.true
 
-pub returns-in_default-rest : goal.returns-in_default-rest
-returns-in_default-rest c =
+pub returns-in_default-get : goal.returns-in_default-get
+returns-in_default-get c =
     let a = c.args in
-    c.stopped-in_default-rest.ensures ∙ goals-stop a.relations.now a.most a.body.now _ _ c.wide-heads.ensures.0 c.wide-goals.ensures.0 (omega arith) (omega arith) (omega arith) (omega arith) _ _ _ _ c.unnoted.ensures c.read_terms-head.ensures c.in-Next.is _ _ _ c.unnoted-2.ensures c.read_subgoals-rest.ensures c.in_default-rest.is
+    let here = c.in-Some.ensures.item.3 in
+    one_byte a.relations.now a.most a.body.now _ (c.from-heads.ensures ∙ here.1 0) here.0 (omega arith) (let e = c.in_default-get.ensures.lookup.3 in omega arith)
+
+counts : (c : After-from-goals) → Counts c.args.body.now c.from-heads.result c.from-goals.result
+counts c = record {
+  heads = c.from-heads.ensures ∙ c.in-Some.ensures.item.3.1 0;
+  goals = c.from-goals.ensures ∙ c.in-Some-get.ensures.lookup.3.1 0;
+  both = let h = c.in-Some-get.ensures.lookup.3.0 in omega arith;
+  few = omega arith;
+}
+
+pub returns-then-goals-lt1 : goal.returns-then-goals-lt1
+returns-then-goals-lt1 c =
+    let a = c.args in
+    bad-goals a.relations.now a.most a.body.now _ _ (counts (goal.at.returns-then-goals-lt1 c).After-from-goals) c.then-goals-lt1.either
+
+pub returns-in_default-read : goal.returns-in_default-read
+returns-in_default-read c =
+    let a = c.args in
+    let front = counts (goal.at.returns-in_default-read c).After-from-goals in
+    head-stops a.relations.now a.most a.body.now _ _ front (omega arith) (omega arith) _ _ _ c.new.ensures c.read_terms-read.ensures c.unwrap_err.ensures
+
+pub read_subgoals-read-requires : goal.read_subgoals-read-requires
+read_subgoals-read-requires c =
+    let a = c.args in
+    let front = counts (goal.at.read_subgoals-read-requires c).After-from-goals in
+    head-place a.relations.now a.most a.body.now _ _ front (omega arith) (omega arith) _ _ _ c.new.ensures c.read_terms-read.ensures c.in-Ok.is _ c.new-2.ensures
+
+pub returns-in_default-read-2 : goal.returns-in_default-read-2
+returns-in_default-read-2 c =
+    let a = c.args in
+    let front = counts (goal.at.returns-in_default-read-2 c).After-from-goals in
+    goals-stop a.relations.now a.most a.body.now _ _ front (omega arith) (omega arith) _ _ _ c.new.ensures c.read_terms-read.ensures c.in-Ok.is _ _ _ c.new-2.ensures c.read_subgoals-read.ensures c.unwrap_err-in_default-read-2.ensures
 
 pub returns-then-end-body : goal.returns-then-end-body
 returns-then-end-body c =
     let a = c.args in
-    bytes-over a.relations.now a.most a.body.now _ _ c.wide-heads.ensures.0 c.wide-goals.ensures.0 (omega arith) (omega arith) (omega arith) (omega arith) _ _ _ _ c.unnoted.ensures c.read_terms-head.ensures c.in-Next.is _ _ _ _ c.unnoted-2.ensures c.read_subgoals-rest.ensures c.in-Next-rest.is c.if-end-body.true
+    let front = counts (goal.at.returns-then-end-body c).After-from-goals in
+    bytes-over a.relations.now a.most a.body.now _ _ front (omega arith) (omega arith) _ _ _ c.new.ensures c.read_terms-read.ensures c.in-Ok.is _ _ _ c.new-2.ensures c.read_subgoals-read.ensures c.in-Ok-read.is c.if-end-body.true
 
 pub returns : goal.returns
 returns c =
     let a = c.args in
-    all_read a.relations.now a.most a.body.now _ _ c.wide-heads.ensures.0 c.wide-goals.ensures.0 (omega arith) (omega arith) (omega arith) (omega arith) _ _ _ _ c.unnoted.ensures c.read_terms-head.ensures c.in-Next.is _ _ _ _ c.unnoted-2.ensures c.read_subgoals-rest.ensures c.in-Next-rest.is c.if-end-body.false
+    let front = counts (goal.at.returns c).After-from-goals in
+    all_read a.relations.now a.most a.body.now _ _ front (omega arith) (omega arith) _ _ _ c.new.ensures c.read_terms-read.ensures c.in-Ok.is _ _ _ c.new-2.ensures c.read_subgoals-read.ensures c.in-Ok-read.is c.if-end-body.false

@@ -2,12 +2,12 @@
 use mathlib.Core.Path.{refl}
 use mathlib.Core.List.{List, [], ◌∷◌}
 use Prim.Native.Nat.{ℕ}
+use Rattle.std.specs.Prelude.{Ok, Err}
 use Rattle.spec.specs.Numbers.{number_at}
 use Rattle.spec.specs.Contents.{offset_at, length_at, stamp_at}
-use Rattle.spec.specs.Refusals.{of_book}
 use Rattle.spec.specs.TableLoading.{record_at, records_from, Afterwards}
 use Rattle.spec.specs.declared.Entry.{Entry}
-use Rattle.spec.specs.declared.Loaded.TheVariants.{Good, Refused}
+use Rattle.spec.specs.declared.Refused.TheVariants.{Contents}
 
 -- the contents of a book of no summaries: a relation at 26, stamp 0; a question of 8 bytes at 27, need 5
 abbrev contents : List ℕ
@@ -20,10 +20,10 @@ abbrev before : List Entry
 before = entry 1 2 3 ∷ entry 4 5 6 ∷ entry 7 8 9 ∷ entry 7 7 7 ∷ []
 
 -- "the loader fills a lent table .. (offset, length, stamp)"; "the records past n + 2 stay"
-filled : Afterwards contents before (entry 26 1 0 ∷ entry 27 8 5 ∷ entry 7 8 9 ∷ entry 7 7 7 ∷ []) (Good 0)
+filled : Afterwards contents before (entry 26 1 0 ∷ entry 27 8 5 ∷ entry 7 8 9 ∷ entry 7 7 7 ∷ []) (Ok 0)
 unfolding records_from record_at offset_at length_at stamp_at number_at
 filled = refl
 
 -- "no lent byte or record changes"
-kept : Afterwards contents before before (Refused (of_book 4))
+kept : Afterwards contents before before (Err Contents)
 kept = refl

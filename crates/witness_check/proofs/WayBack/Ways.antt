@@ -14,15 +14,13 @@ use Rattle.spec.specs.Book.{Book, admitted_of}
 use Rattle.outcomes.proofs.Rooms.{back_long}
 use Rattle.book_codes.specs.Question.{QuestionTarget, QuestionBound}
 use Rattle.book_codes.specs.UsesLent.{SourceUsesOf}
-use Rattle.book_codes.proofs.Lent.{targets-few}
 use Rattle.book_codes.proofs.BackTask as back
 use Rattle.bits.proofs.Laws.{exactly-no}
 use Rattle.task.specs.Mapped.{Mapped}
 use Rattle.task.specs.Follows.{Follows}
 use Rattle.search_meaning.proofs.Back.{places-from}
-use Rattle.witness_check.specs.WayThere.Places.{nowhere}
-use Rattle.witness_check.specs.WayBack.Places.{Before, BytePlaces}
-use Rattle.witness_check.proofs.WayBack.Named.{bytes-named, named-bytes}
+use Rattle.witness_check.specs.WayBack.Places.{BytePlaces}
+use Rattle.witness_check.proofs.WayBack.Named.{bytes-named, named-bytes, no-zero}
 
 -- A part of another length is none.
 pub back-short : {book source widths lasts : List ℕ} (b : Book) (l : List (Subgoal (Term ℕ))) → SourceUsesOf book source widths lasts b l
@@ -46,14 +44,18 @@ module _ {book source widths lasts : List ℕ} (b : Book) (l : List (Subgoal (Te
       all : length (take (length widths) ks) ≡ length widths
       all = length-take-le (length widths) ks (omega (arith, p.long, back.all-few b l o target heads))
 
-      below : MapsBack (take (length widths) ks) → (i : ℕ) → i < length (take (length widths) ks) → get_or (take (length widths) ks) i 0 < nowhere
-      below m i h = omega (arith, (m.lands i (omega (arith, all))).within, targets-few b o.list.sound target, back.own-long b l o target heads)
+      named : map suc (take (length widths) ks) ≡ witness
+      named = bytes-named witness (take (length widths) ks) (omega (arith, all)) (λ i h. let less : i < length widths = omega (arith, all) in p.at i (omega arith) ∙ ap suc (sym (get_or-take (length widths) ks i 0 less)))
 
       pub back-followed : (r ≡ true) ↔ Returns witness
       back-followed = (
-        λ e. let m = f.exactly.0 e in
-            subst Returns (bytes-named witness (take (length widths) ks) (omega (arith, all)) (below m) (λ i h. let less : i < length widths = omega (arith, all) in subst (Before (get_or witness i 0)) (sym (get_or-take (length widths) ks i 0 less)) (p.at i (omega arith)))) ((back.back-mapped b l o target heads (take (length widths) ks)).0 m),
+        λ e. subst Returns named ((back.back-mapped b l o target heads (take (length widths) ks)).0 (f.exactly.0 e)),
         λ t. let w = returned witness t in
-            let same = named-bytes w.0 (take (length widths) ks) (omega (arith, w.2.long, all)) (λ i h. let less : i < length widths = omega (arith, all) in subst (λ x. Before (get_or x i 0) (get_or (take (length widths) ks) i 0)) (sym w.1) (subst (Before (get_or witness i 0)) (sym (get_or-take (length widths) ks i 0 less)) (p.at i (omega arith)))) in
-            f.exactly.1 (subst MapsBack same w.2),
+            f.exactly.1 (subst MapsBack (named-bytes w.0 (take (length widths) ks) (w.1 ∙ sym named)) w.2),
       )
+
+    -- A byte that names nothing stands in no such part.
+    pub back-unnamed : {witness : List ℕ} → (i : ℕ) × (i < length witness) × (get_or witness i 0 ≡ 0) → (false ≡ true) ↔ Returns witness
+    back-unnamed {witness} z = exactly-no (λ t.
+        let w = returned witness t in
+        no-zero w.0 z.0 (omega (arith, z.1, ap length w.1, length-map w.0 suc)) (ap (λ x. get_or x z.0 0) w.1 ∙ z.2))

@@ -1,16 +1,17 @@
 -- Pairs of bytes and the places that they name: as lists, both ways.
-use mathlib.Core.Path.{◌≡◌, refl, sym, ap, ap₂, ◌∙◌}
+use mathlib.Core.Path.{◌≡◌, refl, sym, ap, ap₂, ◌∙◌, subst}
 use mathlib.Core.List.{List, [], ◌∷◌}
 use Prim.Native.Nat.{ℕ, zero, suc, ◌+◌, ◌*◌, ◌-◌, ◌<◌, ◌≤◌}
 use native.Mathlib.Omega.{arith}
 use native.Mathlib.Decide.{dec_lt}
 use lib.ListN.{length, get_or, length-append}
+use lib.Seq.{ext_get_or}
 use Rattle.spec.specs.Summaries.{joined}
 use Rattle.book_codes.specs.Insides.{starts}
 use Rattle.book_codes.proofs.Read.{first-start}
 use Rattle.search_meaning.specs.Uses.{use_at, within_at, pairs_of}
 use Rattle.search_meaning.proofs.Pairs.{use-here, use-later}
-use Rattle.witness_check.specs.WayThere.Places.{nowhere, InUse, PlaceOf}
+use Rattle.witness_check.specs.WayThere.Places.{InUse, Names, PairNames}
 
 module _ {A : Type 0} where
   -- a place lies in its use; the first use begins at `at`
@@ -51,7 +52,7 @@ module _ {A : Type 0} where
 
     -- what stands at i of the places is what the pair at i names
     abbrev pub Pointed : List ℕ → List ℕ → Type 0
-    Pointed bytes l = (i : ℕ) → i < length l → PlaceOf begins (length ls) (get_or bytes (2 * i) 0) (get_or bytes (2 * i + 1) 0) (get_or l i 0)
+    Pointed bytes l = (i : ℕ) → i < length l → PairNames bytes begins (length ls) i (get_or l i 0)
 
     pointed-rest : (a b : ℕ) (bytes : List ℕ) (x : ℕ) (l : List ℕ) → Pointed (a ∷ b ∷ bytes) (x ∷ l) → Pointed bytes l
     pointed-rest a b bytes x l h i o =
@@ -59,27 +60,35 @@ module _ {A : Type 0} where
         let f : 2 * suc i + 1 ≡ suc (suc (2 * i + 1)) = omega arith in
         rw (ap (λ n. get_or (a ∷ b ∷ bytes) n 0) e, ap (λ n. get_or (a ∷ b ∷ bytes) n 0) f) at (h (suc i) (omega arith))
 
-    pub pairs-named : (bytes l : List ℕ) → length bytes ≡ 2 * length l → length (joined ls) ≤ nowhere → ((i : ℕ) → i < length l → get_or l i 0 < length (joined ls)) → Pointed bytes l → pairs_of ls l ≡ bytes
-    pairs-named [] [] n few within h = refl
-    pairs-named (a ∷ bytes) [] n few within h = absurd (omega arith)
-    pairs-named [] (x ∷ l) n few within h = absurd (omega arith)
-    pairs-named (a ∷ []) (x ∷ l) n few within h = absurd (omega arith)
-    pairs-named (a ∷ b ∷ bytes) (x ∷ l) n few within h =
-        let here = within 0 (omega arith) in
-        let p = (h 0 (omega arith)).from (omega arith) in
+    pub pairs-named : (bytes l : List ℕ) → length bytes ≡ 2 * length l → Pointed bytes l → pairs_of ls l ≡ bytes
+    pairs-named [] [] n h = refl
+    pairs-named (a ∷ bytes) [] n h = absurd (omega arith)
+    pairs-named [] (x ∷ l) n h = absurd (omega arith)
+    pairs-named (a ∷ []) (x ∷ l) n h = absurd (omega arith)
+    pairs-named (a ∷ b ∷ bytes) (x ∷ l) n h =
+        let p = h 0 (omega arith) in
         let j = in_place 0 ls p.0 p.1 x (in-starts p.4) in
         let e : x ≡ j.0 = omega (arith, j.1) in
-        let rest = pairs-named bytes l (omega arith) few (λ i o. within (suc i) (omega arith)) (pointed-rest a b bytes x l h) in
+        let rest = pairs-named bytes l (omega arith) (pointed-rest a b bytes x l h) in
         let f : suc (use_at ls x) ≡ a = ap (λ z. suc (use_at ls z)) e ∙ ap suc j.2 ∙ sym p.2 in
         let g : suc (within_at ls x) ≡ b = ap (λ z. suc (within_at ls z)) e ∙ ap suc j.3 ∙ sym p.3 in
         ap₂ (λ y z. y ∷ z ∷ pairs_of ls l) f g ∙ ap (λ z. a ∷ b ∷ z) rest
 
+    -- a pair names one place
+    names-once : {row inner p q : ℕ} → Names begins (length ls) row inner p → Names begins (length ls) row inner q → p ≡ q
+    names-once x y =
+        let u : x.0 ≡ y.0 = omega (arith, x.2, y.2) in
+        let w : x.1 ≡ y.1 = omega (arith, x.3, y.3) in
+        x.4.is ∙ ap₂ (λ a b. get_or begins a 0 + b) u w ∙ sym y.4.is
+
+    -- each pair of places in uses names its place
+    pub names-each : (l : List ℕ) → ((i : ℕ) → i < length l → get_or l i 0 < length (joined ls)) → Pointed (pairs_of ls l) l
+    names-each [] within i o = absurd (omega arith)
+    names-each (x ∷ l) within zero o = let z : 0 + x ≡ x = omega arith in (use_at ls x, within_at ls x, refl, refl, subst (InUse begins (length ls) (use_at ls x) (within_at ls x)) z (in-begins (place_in 0 ls x (within 0 (omega arith)))))
+    names-each (x ∷ l) within (suc i) o =
+        let e : 2 * suc i ≡ suc (suc (2 * i)) = omega arith in
+        let f : 2 * suc i + 1 ≡ suc (suc (2 * i + 1)) = omega arith in
+        rw (ap (λ n. get_or (pairs_of ls (x ∷ l)) n 0) e, ap (λ n. get_or (pairs_of ls (x ∷ l)) n 0) f) (names-each l (λ j h. within (suc j) (omega arith)) i (omega arith))
+
     pub named-pairs : (l m : List ℕ) → length l ≡ length m → ((i : ℕ) → i < length l → get_or l i 0 < length (joined ls)) → Pointed (pairs_of ls l) m → l ≡ m
-    named-pairs [] [] n within h = refl
-    named-pairs [] (y ∷ m) n within h = absurd (omega arith)
-    named-pairs (x ∷ l) [] n within h = absurd (omega arith)
-    named-pairs (x ∷ l) (y ∷ m) n within h =
-        let i = place_in 0 ls x (within 0 (omega arith)) in
-        let e : y ≡ 0 + x = (h 0 (omega arith)).to (use_at ls x) (within_at ls x) (0 + x) refl refl (in-begins i) in
-        let rest = named-pairs l m (omega arith) (λ i o. within (suc i) (omega arith)) (pointed-rest (suc (use_at ls x)) (suc (within_at ls x)) (pairs_of ls l) y m h) in
-        ap₂ ◌∷◌ (let z : x ≡ y = omega arith in z) rest
+    named-pairs l m n within h = ext_get_or 0 l m n (λ i o. names-once (names-each l within i o) (h i (omega arith)))

@@ -1,12 +1,12 @@
 -- One place more, stored behind those before.
 use mathlib.Core.Path.{◌≡◌, sym, ◌∙◌, subst}
 use mathlib.Core.List.{List}
-use Prim.Native.Nat.{ℕ, ◌+◌, ◌*◌, ◌<◌, ◌≤◌}
+use Prim.Native.Nat.{ℕ, ◌+◌, ◌<◌, ◌≤◌}
 use native.Mathlib.Omega.{arith}
 use native.Mathlib.Decide.{ℕ_discrete}
 use lib.ListN.{length, get_or, set, length-set}
 use lib.Seq.{get_or-set_same, get_or-set_other}
-use Rattle.witness_check.specs.WayThere.Places.{PlaceOf, PairPlaces}
+use Rattle.witness_check.specs.WayThere.Places.{PairNames, PairPlaces}
 
 module _ (P : ℕ → ℕ → Type 0) (n : ℕ) (ks : List ℕ) (p : ℕ) where
   pub one_more : n < length ks → ((i : ℕ) → i < n → P i (get_or ks i 0)) → P n p → (i : ℕ) → i < n + 1 → P i (get_or (set ks n p) i 0)
@@ -18,8 +18,8 @@ module _ (P : ℕ → ℕ → Type 0) (n : ℕ) (ks : List ℕ) (p : ℕ) where
 pub pairs_start : (bytes starts : List ℕ) (k : ℕ) (ks : List ℕ) → length ks ≡ 96 → PairPlaces bytes starts k 0 ks
 pairs_start bytes starts k ks e = record { long = e; at = λ i o. absurd (omega arith) }
 
-pub pairs-more : (bytes starts : List ℕ) (k n : ℕ) (ks : List ℕ) (p : ℕ) → n < 96 → PairPlaces bytes starts k n ks → PlaceOf starts k (get_or bytes (2 * n) 0) (get_or bytes (2 * n + 1) 0) p → PairPlaces bytes starts k (n + 1) (set ks n p)
-pairs-more bytes starts k n ks p room h here = record { long = length-set ks n p ∙ h.long; at = one_more (λ i q. PlaceOf starts k (get_or bytes (2 * i) 0) (get_or bytes (2 * i + 1) 0) q) n ks p (omega (arith, h.long)) h.at here }
+pub pairs-more : (bytes starts : List ℕ) (k n : ℕ) (ks : List ℕ) (p : ℕ) → n < 96 → PairPlaces bytes starts k n ks → PairNames bytes starts k n p → PairPlaces bytes starts k (n + 1) (set ks n p)
+pairs-more bytes starts k n ks p room h here = record { long = length-set ks n p ∙ h.long; at = one_more (PairNames bytes starts k) n ks p (omega (arith, h.long)) h.at here }
 
 -- all are stored
 pub pairs_end : (bytes starts : List ℕ) (k n i : ℕ) (ks : List ℕ) → n ≤ i → PairPlaces bytes starts k i ks → PairPlaces bytes starts k n ks

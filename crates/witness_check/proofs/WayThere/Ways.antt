@@ -21,9 +21,9 @@ use Rattle.task.specs.Follows.{Follows}
 use Rattle.search_meaning.specs.Uses.{pairs_of}
 use Rattle.search_meaning.proofs.Owners.{uses-long}
 use Rattle.search_meaning.proofs.Pairs.{pairs-places}
-use Rattle.witness_check.specs.WayThere.Places.{nowhere, PlaceOf, PairPlaces}
+use Rattle.witness_check.specs.WayThere.Places.{PairNames, PairPlaces}
 use Rattle.witness_check.specs.WayThere.Steps.{BegunUsesOf, ThereAlongNeeds}
-use Rattle.witness_check.proofs.WayThere.Named.{pairs-named, named-pairs}
+use Rattle.witness_check.proofs.WayThere.Named.{Pointed, pairs-named, names-each, named-pairs}
 
 -- A part of another length is none.
 pub there-short : {book target own begins : List ℕ} {k : ℕ} (b : Book) (l : List (Subgoal (Term ℕ))) → BegunUsesOf book target own begins k b l → {before after old new : List ℕ} {n : ℕ} → QuestionSource book before after old new n
@@ -41,9 +41,6 @@ module _ {book target own begins : List ℕ} {k : ℕ} (b : Book) (l : List (Sub
 
   abbrev Maps : List ℕ → Type 0
   Maps = Mapped (there.lent b l o.targets source heads) bound
-
-  few : length (joined ls) ≤ nowhere
-  few = omega (arith, there.all-few b l o.targets source heads)
 
   count : length ls ≡ k
   count = uses-long (admitted_of b) 0 l ∙ o.count
@@ -64,11 +61,11 @@ module _ {book target own begins : List ℕ} {k : ℕ} (b : Book) (l : List (Sub
     taken : length (take n ks) ≡ n
     taken = length-take-le n ks (omega (arith, p.long, there.few-goals b l o.targets source heads))
 
-    pointed : (i : ℕ) → i < length (take n ks) → PlaceOf begins (length ls) (get_or witness (2 * i) 0) (get_or witness (2 * i + 1) 0) (get_or (take n ks) i 0)
+    pointed : Pointed ls begins reads witness (take n ks)
     pointed i h =
         let less : i < n = omega (arith, taken) in
-        subst (λ m. PlaceOf begins m (get_or witness (2 * i) 0) (get_or witness (2 * i + 1) 0) (get_or (take n ks) i 0)) (sym count)
-        (subst (PlaceOf begins k (get_or witness (2 * i) 0) (get_or witness (2 * i + 1) 0)) (sym (get_or-take n ks i 0 less)) (p.at i less))
+        subst (λ m. PairNames witness begins m i (get_or (take n ks) i 0)) (sym count)
+        (subst (PairNames witness begins k i) (sym (get_or-take n ks i 0 less)) (p.at i less))
 
     exactly : (r ≡ true) ↔ Maps (take n ks)
     exactly = subst (λ m. (r ≡ true) ↔ Maps (take m ks)) (there.goals-are b l o.targets source heads) f.exactly
@@ -76,11 +73,18 @@ module _ {book target own begins : List ℕ} {k : ℕ} (b : Book) (l : List (Sub
     pub there-followed : (r ≡ true) ↔ Goes witness
     there-followed = (
       λ e. let m = exactly.0 e in
-          subst Goes (pairs-named ls begins reads witness (take n ks) (omega (arith, taken)) few (within (take n ks) m) pointed) ((there.there-mapped b l o.targets source heads (take n ks)).0 m),
+          subst Goes (pairs-named ls begins reads witness (take n ks) (omega (arith, taken)) pointed) ((there.there-mapped b l o.targets source heads (take n ks)).0 m),
       λ t. let w = named witness t in
-          let same = named-pairs ls begins reads w.0 (take n ks) (omega (arith, w.2.long, there.goals-are b l o.targets source heads, taken)) (within w.0 w.2) (λ i h. subst (λ x. PlaceOf begins (length ls) (get_or x (2 * i) 0) (get_or x (2 * i + 1) 0) (get_or (take n ks) i 0)) (sym w.1) (pointed i h)) in
+          let same = named-pairs ls begins reads w.0 (take n ks) (omega (arith, w.2.long, there.goals-are b l o.targets source heads, taken)) (within w.0 w.2) (subst (λ x. Pointed ls begins reads x (take n ks)) (sym w.1) pointed) in
           exactly.1 (subst Maps same w.2),
     )
+
+  -- A pair that names nothing stands in no such part.
+  pub there-unnamed : {witness : List ℕ} → (i : ℕ) × (i < n) × ((place : ℕ) → PairNames witness begins k i place → ⊥) → (false ≡ true) ↔ Goes witness
+  there-unnamed {witness} z = exactly-no (λ t.
+      let w = named witness t in
+      let less : z.0 < length w.0 = omega (arith, z.1, w.2.long, there.goals-are b l o.targets source heads) in
+      z.2 (get_or w.0 z.0 0) (subst (λ m. PairNames witness begins m z.0 (get_or w.0 z.0 0)) count (subst (λ x. PairNames x begins (length ls) z.0 (get_or w.0 z.0 0)) w.1 (names-each ls begins reads w.0 (within w.0 w.2) z.0 less))))
 
 pub stood-sound : {book target own begins : List ℕ} {k : ℕ} → ThereAlongNeeds book target own begins k → SomeSound book
 stood-sound o = record { value = o.value; sound = o.is.targets.list.sound }

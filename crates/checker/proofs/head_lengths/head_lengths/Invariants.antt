@@ -1,6 +1,6 @@
 use mathlib.Core.Path.{◌≡◌}
 use lib.ListN.{length}
-use Prim.Native.Nat.{◌≤◌, ◌-◌}
+use Prim.Native.Nat.{◌≤◌}
 use Rattle.checker.specs.Lengths.{HeadsTo}
 use Rattle.checker.proofs.head_lengths.head_lengths.Given as goal
 
@@ -11,9 +11,3 @@ invariant-loop-i l =
     let table = l.table in
     let i = l.i in
     (i ≤ n) × (length table ≡ 65) × HeadsTo book i table
-
-abbrev pub decreases-loop-i : goal.decreases-loop-i
-decreases-loop-i l =
-    let n = l.n in
-    let i = l.i in
-    n - i

@@ -1,14 +1,13 @@
 use Rattle.book_codes.proofs.Laid.{question-part, laid}
 use Rattle.checker.proofs.LayoutLaws.{laid-some}
-use Rattle.checker.proofs.RowLaws.{none-laid, none-headed, rows-given}
+use Rattle.checker.proofs.RowLaws.{none-laid, none-headed, rows-given, rows-rule}
 use Rattle.checker.proofs.proposal.propose_over.Goals as goal
 
 pub returns-then-not-is_laid_out : goal.returns-then-not-is_laid_out
 returns-then-not-is_laid_out c =
-    let none = c.none in
     let is-laid-out = c.is_laid_out in
     let w = c.requires in
-    rw none.ensures (none-laid w.1 is-laid-out.ensures c.if-not-is_laid_out.true)
+    none-laid w.1 is-laid-out.ensures c.if-not-is_laid_out.true
 
 pub part_of-requires : goal.part_of-requires
 part_of-requires c =
@@ -24,11 +23,10 @@ same_heads-requires c =
 
 pub returns-then-not-same_heads : goal.returns-then-not-same_heads
 returns-then-not-same_heads c =
-    let none2 = c.none-then-not-same_heads in
     let same-heads = c.same_heads in
     let part_of = c.part_of in
     let w = c.requires in
-    rw none2.ensures (none-headed w.1 part_of.ensures same-heads.ensures c.if-not-same_heads.true)
+    none-headed w.1 part_of.ensures same-heads.ensures c.if-not-same_heads.true
 
 pub read_rows-requires : goal.read_rows-requires
 read_rows-requires c =
@@ -37,3 +35,11 @@ read_rows-requires c =
     let is-laid-out = c.is_laid_out in
     let w = c.requires in
     rows-given w.1 part_of.ensures same-heads.ensures w.0 is-laid-out.ensures c.if-not-is_laid_out.false c.if-not-same_heads.false
+
+pub invariant_of-body : goal.invariant_of-body
+invariant_of-body c =
+    let same-heads = c.same_heads in
+    let part_of = c.part_of in
+    let is-laid-out = c.is_laid_out in
+    let w = c.requires in
+    record { laid = rows-rule (rows-given w.1 part_of.ensures same-heads.ensures w.0 is-laid-out.ensures c.if-not-is_laid_out.false c.if-not-same_heads.false) }

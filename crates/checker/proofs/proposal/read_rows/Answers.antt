@@ -1,11 +1,11 @@
 use native.Mathlib.Omega.{arith}
-use Rattle.checker.proofs.RowLaws.{rows-room, codes-there, rows-proposed, rows-refused}
+use Rattle.checker.proofs.RowLaws.{rows-goals, codes-there, rows-proposed, rows-refused}
 use Rattle.checker.proofs.proposal.read_rows.Goals as goal
 
 pub term_codes-count-requires : goal.term_codes-count-requires
 term_codes-count-requires c =
     let w = c.requires in
-    (rows-room w 9 _ (λ n h. omega arith), rows-room w 1 _ (λ n h. omega arith))
+    (omega (arith, rows-goals w), omega (arith, rows-goals w))
 
 pub all_admitted-requires : goal.all_admitted-requires
 all_admitted-requires c =
@@ -23,9 +23,8 @@ returns-then-all_admitted c =
 
 pub returns : goal.returns
 returns c =
-    let none = c.none in
     let if1 = c.if-all_admitted in
     let all-admitted = c.all_admitted in
     let term-codes = c.term_codes-count in
     let w = c.requires in
-    rw none.ensures (rows-refused w term-codes.ensures.0 all-admitted.ensures if1.false)
+    rows-refused w term-codes.ensures.0 all-admitted.ensures if1.false

@@ -1,4 +1,4 @@
-use Prim.Native.Nat.{◌≤◌, ◌-◌}
+use Prim.Native.Nat.{◌≤◌}
 use Rattle.checker.proofs.AdmissionLaws.{AdmittedTo}
 use Rattle.checker.proofs.tests.all_admitted.Given as goal
 
@@ -9,9 +9,3 @@ invariant-loop-i l =
     let count = l.count in
     let i = l.i in
     (i ≤ count) × AdmittedTo book codes i
-
-abbrev pub decreases-loop-i : goal.decreases-loop-i
-decreases-loop-i l =
-    let count = l.count in
-    let i = l.i in
-    count - i

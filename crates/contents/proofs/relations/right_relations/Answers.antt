@@ -27,4 +27,4 @@ length_at-requires c = room c.args.book.now c.requires
 pub returns : goal.returns
 returns c =
     let book = c.args.book.now in
-    relations-say book _ c.right_arities.result (omega arith) (part-lent book 0 _ _ c.offset_at-offset.ensures.0 c.length_at.ensures.0) c.right_arities.ensures
+    relations-say book _ _ c.right_arities.result (omega arith) (part-lent book 0 _ _ c.offset_at-offset.ensures.0 c.length_at.ensures.0) c.right_arities.ensures

@@ -1,59 +1,38 @@
-use Rattle.std.proofs.Common.{◌≡◌, ℕ, length, ap, sym, ◌∙◌, arith, add-one}
-use mathlib.Core.Path.{refl, subst}
-use Prim.Native.Nat.{◌<◌, ◌*◌}
-use mathlib.Core.List.{List}
-use lib.ListN.{set}
-use Rattle.spec.specs.TableLoading.{LoadingSays}
-use Rattle.spec.specs.declared.Loaded.{Loaded}
-use Rattle.spec.specs.declared.Loaded.TheVariants.{Good, Refused}
+use mathlib.Core.Path.{refl, sym}
+use native.Mathlib.Omega.{arith}
+use Rattle.std.proofs.lemmas.Result.{err_from_is_err_and}
+use Rattle.spec.specs.TableLoading.{one, then}
 use Rattle.spec.proofs.Bytes.Within.{entries-are}
-use Rattle.contents.specs.Records.{records_of, FewSummaries}
-use Rattle.spec.specs.declared.Entry.{Entry}
-use Rattle.contents.proofs.Records.Filling.{filled, fitting, few-said, length-filled, filled_more, loaded}
+use Rattle.contents.proofs.Records.Filling.{entry-long, front, filled-all}
 use Rattle.contents.proofs.table.load_table.Goals as goal
 
--- The records of a book that loads are few, and so are their bytes.
-most-records : (said : Loaded) (many i : ℕ) → FewSummaries said → many ≡ records_of said → i < many → i * 12 < 18446744073709551616
-most-records (Good n) many i few e h = let two = entries-are n in omega arith
-most-records (Refused r) many i few e h = omega arith
+pub returns-then-table-lt-TABLE_ROOM : goal.returns-then-table-lt-TABLE_ROOM
+returns-then-table-lt-TABLE_ROOM c = record { judged = one c.if-table-lt-TABLE_ROOM.true; table = refl }
 
-pub records_of-many-requires : goal.records_of-many-requires
-records_of-many-requires c = few-said _ _ _ c.judge_table-said.ensures
+pub returns-in_err-n : goal.returns-in_err-n
+returns-in_err-n c =
+    let p = err_from_is_err_and c.from_residual.result c.from_residual.ensures.1 in
+    rw (p.1, p.2) (record { judged = then c.if-table-lt-TABLE_ROOM.false c.in_err-n.ensures.0 c.in_err-n.ensures.1; table = refl })
 
-pub loop-i-init : goal.loop-i-init
-unfolding filled
-loop-i-init c = (omega arith, refl)
+pub slice_bounds-record-items-end : goal.slice_bounds-record-items-end
+slice_bounds-record-items-end c = let few = c.in_ok-n.ensures.0.few in let counted = c.in_ok-n.ensures.1 in omega (arith, entries-are c.in_ok-n.n)
+
+pub slice_bounds-record-items-end-2 : goal.slice_bounds-record-items-end-2
+slice_bounds-record-items-end-2 c =
+    let loaded = c.in_ok-n.ensures in
+    sym (front c.args.book.now _ _ c.args.table.now loaded.0 loaded.1 c.entries_of-many.ensures c.if-table-lt-TABLE_ROOM.false)
 
 pub record_at-requires : goal.record_at-requires
 record_at-requires c =
-    let w = fitting _ _ _ _ c.judge_table-said.ensures c.records_of-many.ensures in
-    w.long c.loop-i.i (omega arith)
-
-pub bounds-table-i : goal.bounds-table-i
-bounds-table-i c =
-    let w = fitting _ _ _ _ c.judge_table-said.ensures c.records_of-many.ensures in
-    omega (arith, w.within, ap length c.loop-i.invariant.1, length-filled c.args.book.now c.loop-i.i c.args.table.now)
-
-pub offset_bounds-table-i : goal.offset_bounds-table-i
-offset_bounds-table-i c =
-    let few = few-said _ _ _ c.judge_table-said.ensures in
-    let small = most-records _ _ _ few c.records_of-many.ensures c.loop-i-test.true in
-    record { fits = small }
-
-pub loop-i-preserved : goal.loop-i-preserved
-loop-i-preserved c =
-    let book = c.args.book.now in
-    let table = c.args.table.now in
-    let i = c.loop-i.i in (
-      omega arith,
-      ap (λ (t : List Entry). set t i c.record_at.result) c.loop-i.invariant.1 ∙ filled_more book i table _ c.record_at.ensures ∙ ap (λ (k : ℕ). filled book k table) (sym (add-one i)),
-    )
+    let loaded = c.in_ok-n.ensures in
+    let long = front c.args.book.now _ _ c.args.table.now loaded.0 loaded.1 c.entries_of-many.ensures c.if-table-lt-TABLE_ROOM.false in
+    entry-long c.args.book.now c.in_ok-n.n c.entries_of-many.result c.loop-i.i loaded.0 loaded.1 c.entries_of-many.ensures (omega (arith, long))
 
 pub returns : goal.returns
 returns c =
-    let book = c.args.book.now in
-    let table = c.args.table.now in
-    let many = c.records_of-many.result in
-    let all : c.loop-i.i ≡ many = omega arith in
-    subst (λ (t : List Entry). LoadingSays book table t c.judge_table-said.result) (sym (c.loop-i.invariant.1 ∙ ap (λ (k : ℕ). filled book k table) all))
-    (loaded book table _ many c.judge_table-said.ensures c.records_of-many.ensures)
+    let loaded = c.in_ok-n.ensures in
+    let long = front c.args.book.now _ _ c.args.table.now loaded.0 loaded.1 c.entries_of-many.ensures c.if-table-lt-TABLE_ROOM.false in
+    record {
+      judged = (c.if-table-lt-TABLE_ROOM.false, loaded);
+      table = filled-all c.args.book.now c.in_ok-n.n _ c.args.table.now c.loop-i.record-items c.entries_of-many.ensures (omega (arith, long)) (λ k d l. c.loop-i.invariant k d (omega (arith, long)));
+    }

@@ -1,56 +1,42 @@
-use mathlib.Core.Path.{refl, sym}
+use mathlib.Core.Path.{sym}
 use native.Mathlib.Omega.{arith}
+use lib.Seq.{length-take-le}
 use Rattle.book_codes.proofs.Growing.{row-there, rows-room}
-use Rattle.row_choice.proofs.RowSteps.{goals-few, source-long, widths-long, source-part, widths-part, row-against, row-dominators}
+use Rattle.row_choice.proofs.RowSteps.{row-against, row-dominators}
 use Rattle.row_choice.proofs.dominators.dominators.Goals as goal
 
 pub slice_bounds-kept_use-count : goal.slice_bounds-kept_use-count
-slice_bounds-kept_use-count c = let p = c.requires in omega (arith, rows-room p.0)
+slice_bounds-kept_use-count c = omega (arith, rows-room c.requires.0)
 
 pub slice_bounds-kept_use-start : goal.slice_bounds-kept_use-start
-slice_bounds-kept_use-start c = let p = c.requires in omega (arith, rows-room p.0)
+slice_bounds-kept_use-start c = omega (arith, rows-room c.requires.0)
 
 pub kept_use-goals-requires : goal.kept_use-goals-requires
 kept_use-goals-requires c = let p = c.requires in (row-there p.0 _ p.2, omega arith, omega arith)
 
 pub overflow_mul-source : goal.overflow_mul-source
-overflow_mul-source c =
-    let p = c.requires in
-    let u = c.kept_use-goals.ensures in
-    omega (arith, goals-few p.0 p.2 u.0 u.1 refl refl)
+overflow_mul-source c = omega (arith, (c.kept_use-goals.ensures.0 0).few)
 
 pub slice_bounds-source-end : goal.slice_bounds-source-end
-slice_bounds-source-end c =
-    let p = c.requires in
-    let u = c.kept_use-goals.ensures in
-    omega (arith, goals-few p.0 p.2 u.0 u.1 refl refl, source-long p.0 p.2 u.0 u.1 refl refl)
+slice_bounds-source-end c = omega (arith, (c.kept_use-goals.ensures.0 0).few)
 
 pub slice_bounds-those_over-end : goal.slice_bounds-those_over-end
-slice_bounds-those_over-end c =
-    let p = c.requires in
-    let u = c.kept_use-goals.ensures in
-    sym (source-part p.0 p.2 u.0 u.1 refl refl)
+slice_bounds-those_over-end c = sym (length-take-le _ _ (omega (arith, (c.kept_use-goals.ensures.0 0).few)))
 
 pub slice_bounds-widths-end : goal.slice_bounds-widths-end
-slice_bounds-widths-end c =
-    let p = c.requires in
-    let u = c.kept_use-goals.ensures in
-    omega (arith, goals-few p.0 p.2 u.0 u.1 refl refl, widths-long p.0 p.2 u.0 u.1 refl refl)
+slice_bounds-widths-end c = omega (arith, (c.kept_use-goals.ensures.0 0).few)
 
 pub slice_bounds-those_over-end-2 : goal.slice_bounds-those_over-end-2
-slice_bounds-those_over-end-2 c =
-    let p = c.requires in
-    let u = c.kept_use-goals.ensures in
-    sym (widths-part p.0 p.2 u.0 u.1 refl refl)
+slice_bounds-those_over-end-2 c = sym (length-take-le _ _ (omega (arith, (c.kept_use-goals.ensures.0 0).few)))
 
 pub those_over-requires : goal.those_over-requires
 those_over-requires c =
     let p = c.requires in
     let u = c.kept_use-goals.ensures in
-    row-against p.0 p.2 u.0 u.1 refl refl p.1 p.3
+    row-against p.0 p.2 u.0 u.1 p.1 p.3
 
 pub returns : goal.returns
 returns c =
     let p = c.requires in
     let u = c.kept_use-goals.ensures in
-    row-dominators p.0 p.2 u.0 u.1 refl refl p.1 p.3 c.those_over.ensures
+    row-dominators p.0 p.2 u.0 u.1 p.1 p.3 c.those_over.ensures

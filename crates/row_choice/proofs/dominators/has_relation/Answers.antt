@@ -1,39 +1,18 @@
-use mathlib.Core.Path.{refl}
+use mathlib.Core.Path.{◌≡◌, ap, ◌∙◌}
 use native.Mathlib.Omega.{arith}
-use Rattle.row_choice.proofs.PairSteps.{none_yet}
-use Rattle.spec.proofs.Lists.Tests.{true-not-false}
+use Rattle.std.proofs.Common.{rules}
+use Rattle.std.proofs.lemmas.Bool.{MatchBool-at_false}
+use Rattle.std.proofs.lemmas.Option.{IfSome_then}
+use Rattle.std.specs.Slice.Iter.{chunks_exact_size, chunks_exact_rest}
+use Rattle.row_choice.proofs.Chunks.{no-chunk}
 use Rattle.row_choice.proofs.dominators.has_relation.Goals as goal
 
-pub loop-k-init : goal.loop-k-init
-loop-k-init c = (refl, omega arith, λ j h e. omega arith)
-
-pub overflow_mul-k : goal.overflow_mul-k
-overflow_mul-k c = let l = c.loop-k in let i = l.invariant.0 in omega arith
-
-pub offset_bounds-target-k : goal.offset_bounds-target-k
-offset_bounds-target-k c = let l = c.loop-k in let i = l.invariant.0 in omega arith
-
-pub bounds-target-k : goal.bounds-target-k
-bounds-target-k c = let l = c.loop-k in let i = l.invariant.0 in let t = c.loop-k-test.true in omega arith
-
-pub returns-then-target-k : goal.returns-then-target-k
-returns-then-target-k c = record { none = λ e. absurd (true-not-false e) }
-
-pub loop-k-preserved : goal.loop-k-preserved
-loop-k-preserved c =
-    let l = c.loop-k in
-    let a = c.args in
-    (l.invariant.0, omega arith, none_yet a.target.now l.invariant.2 c.if-target-k.false)
-
 pub returns : goal.returns
-returns c =
-    let l = c.loop-k in
-    record { none = λ e j h. l.invariant.2 j (let t = c.loop-k-test.false in let i = l.invariant.0 in omega arith) }
-
-pub overflow_add-k : goal.overflow_add-k
-overflow_add-k c =
-    omega arith
-
-pub loop-k-smaller : goal.loop-k-smaller
-loop-k-smaller c =
-    omega arith
+returns c = record {
+  none = λ e.
+      let run = c.any.ensures.runs in
+      let all = MatchBool-at_false _ _ e run.2 in
+      let size : chunks_exact_size run.0.from ≡ 9 = ap chunks_exact_size run.1 ∙ c.chunks_exact.ensures.size in
+      no-chunk run.0 _ _ size (ap chunks_exact_rest run.1 ∙ c.chunks_exact.ensures.rest) (c.chunks_exact.ensures.runs run.0 run.0.seen (omega arith)) all.0
+      (λ k. IfSome_then (run.0.at k) (all.1 (λ a r g w. search rules) k) (λ x w. search rules));
+}

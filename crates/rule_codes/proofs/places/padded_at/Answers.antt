@@ -1,5 +1,5 @@
 use native.Mathlib.Omega.{arith}
-use Rattle.rule_codes.proofs.TermSteps.{term-there, code-there, ended}
+use Rattle.rule_codes.proofs.TermSteps.{term-there, code-there}
 use Rattle.rule_codes.proofs.places.padded_at.Goals as goal
 
 pub overflow_mul-k : goal.overflow_mul-k
@@ -13,6 +13,3 @@ code_at-requires c = term-there _ _ _ _ c.requires c.if-k-many.true
 
 pub returns-then-k-many : goal.returns-then-k-many
 returns-then-k-many c = code-there _ _ _ _ _ _ c.if-k-many.true c.code_at.ensures
-
-pub returns : goal.returns
-returns c = ended _ _ _ _ _ c.if-k-many.false

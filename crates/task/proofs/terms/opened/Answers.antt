@@ -1,18 +1,6 @@
-use Rattle.task.proofs.Clear.{clear-start, clear-more, clear-end, clear_none}
+use native.Mathlib.Omega.{arith}
+use Rattle.task.proofs.Clear.{clear-own}
 use Rattle.task.proofs.terms.opened.Goals as goal
 
-pub returns-then-last-eq0 : goal.returns-then-last-eq0
-returns-then-last-eq0 c =
-    clear_none _ _ c.requires c.if-last-eq0.true
-
-pub loop-x-init : goal.loop-x-init
-loop-x-init c =
-    clear-start _ c.requires
-
-pub loop-x-preserved : goal.loop-x-preserved
-loop-x-preserved c =
-    clear-more _ _ _ c.loop-x-test.true c.loop-x.invariant
-
-pub returns : goal.returns
-returns c =
-    clear-end _ _ _ _ c.if-last-eq0.false c.loop-x-test.false c.loop-x.invariant
+pub returns-then-last-ne0 : goal.returns-then-last-ne0
+returns-then-last-ne0 c = clear-own _ c.args.g.now _ (omega arith) c.if-last-ne0.true (c.fill.ensures.after (λ y e. e))

@@ -59,14 +59,6 @@ returns c =
     let e : l.i ≡ a.n = omega arith in
     l.invariant.2 ∙ ap (λ n. sets a.out.now 0 (pair_bytes a.ks.now a.own.now a.inner.now 0 n)) e
 
-pub overflow_add-i : goal.overflow_add-i
-overflow_add-i c =
-    omega arith
-
-pub loop-i-smaller : goal.loop-i-smaller
-loop-i-smaller c =
-    omega arith
-
 pub shape_of-out : goal.shape_of-out
 shape_of-out c =
     c.loop-i.invariant.1

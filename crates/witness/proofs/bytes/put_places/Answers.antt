@@ -49,14 +49,6 @@ pub bounds-out-at : goal.bounds-out-at
 bounds-out-at c =
     let w = c.requires in let a = c.args in let l = c.loop-i in let r = w.room in let f = w.few in omega arith
 
-pub overflow_add-i : goal.overflow_add-i
-overflow_add-i c =
-    omega arith
-
-pub loop-i-smaller : goal.loop-i-smaller
-loop-i-smaller c =
-    omega arith
-
 pub shape_of-out : goal.shape_of-out
 shape_of-out c =
     c.loop-i.invariant.1

@@ -1,5 +1,5 @@
 use mathlib.Core.Path.{◌≡◌}
-use Prim.Native.Nat.{◌≤◌, ◌-◌}
+use Prim.Native.Nat.{◌≤◌}
 use lib.ListN.{length}
 use lib.Seq.{sets}
 use Rattle.witness.specs.WitnessBytes.{place_bytes}
@@ -15,9 +15,3 @@ invariant-loop-i l =
     let out = l.out in
     let i = l.i in
     (i ≤ n) × (length out ≡ length out₀) × (out ≡ sets out₀ at (place_bytes ks 0 i))
-
-abbrev pub decreases-loop-i : goal.decreases-loop-i
-decreases-loop-i l =
-    let n = l.n in
-    let i = l.i in
-    n - i

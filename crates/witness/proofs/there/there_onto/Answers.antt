@@ -2,7 +2,7 @@ use mathlib.Core.Path.{sym}
 use native.Mathlib.Omega.{arith}
 use lib.Seq.{length-take-le}
 use Rattle.book_codes.proofs.Lent.{goals-few, source-room, widths-room}
-use Rattle.witness.proofs.ThereLaws.{there-paired, there-of}
+use Rattle.witness.proofs.ThereLaws.{there-found-some, there-paired, there-of}
 use Rattle.book_codes.proofs.ThereTask.{some-sound, there-lent}
 use Rattle.witness.proofs.there.there_onto.Goals as goal
 
@@ -28,8 +28,8 @@ slice_bounds-source-end c =
     let w = c.requires in
     let v = w.0.onto.is.targets.list.sound in source-room _ v question-source.ensures (omega arith)
 
-pub slice_bounds-first_places-end : goal.slice_bounds-first_places-end
-slice_bounds-first_places-end c =
+pub slice_bounds-task-end : goal.slice_bounds-task-end
+slice_bounds-task-end c =
     let question-source = c.question_source-n in
     let w = c.requires in
     let v = w.0.onto.is.targets.list.sound in sym (length-take-le _ _ (source-room _ v question-source.ensures (omega arith)))
@@ -40,8 +40,8 @@ slice_bounds-widths-end c =
     let w = c.requires in
     let v = w.0.onto.is.targets.list.sound in widths-room _ v question-source.ensures (omega arith)
 
-pub slice_bounds-first_places-end-2 : goal.slice_bounds-first_places-end-2
-slice_bounds-first_places-end-2 c =
+pub slice_bounds-task-end-2 : goal.slice_bounds-task-end-2
+slice_bounds-task-end-2 c =
     let question-source = c.question_source-n in
     let w = c.requires in
     let v = w.0.onto.is.targets.list.sound in sym (length-take-le _ _ (widths-room _ v question-source.ensures (omega arith)))
@@ -52,26 +52,31 @@ slice_bounds-lasts-end c =
     let w = c.requires in
     let v = w.0.onto.is.targets.list.sound in goals-few _ v question-source.ensures
 
-pub slice_bounds-first_places-end-3 : goal.slice_bounds-first_places-end-3
-slice_bounds-first_places-end-3 c =
+pub slice_bounds-task-end-3 : goal.slice_bounds-task-end-3
+slice_bounds-task-end-3 c =
     let question-source = c.question_source-n in
     let w = c.requires in
     let v = w.0.onto.is.targets.list.sound in sym (length-take-le _ _ (goals-few _ v question-source.ensures))
 
-pub first_places-places-requires : goal.first_places-places-requires
-first_places-places-requires c =
+pub invariant_of-task : goal.invariant_of-task
+invariant_of-task c =
     let question-bindings = c.question_bindings-b in
     let question-source = c.question_source-n in
     let w = c.requires in
-    there-lent _ _ w.0.onto.is.targets question-source.ensures question-bindings.ensures
+    record { sized = there-lent _ _ w.0.onto.is.targets question-source.ensures question-bindings.ensures }
+
+pub unwrap-places-requires : goal.unwrap-places-requires
+unwrap-places-requires c =
+    let w = c.requires in
+    there-found-some _ _ w.0.onto.is c.question_source-n.ensures c.question_bindings-b.ensures w.0.serves _ c.first_places.ensures
 
 pub put_pairs-requires : goal.put_pairs-requires
 put_pairs-requires c =
-    let first-places = c.first_places-places in
+    let first-places = c.first_places in
     let question-bindings = c.question_bindings-b in
     let question-source = c.question_source-n in
     let w = c.requires in
-    there-paired _ _ w.0.onto.is question-source.ensures question-bindings.ensures w.0.serves first-places.ensures w.1
+    there-paired _ _ w.0.onto.is question-source.ensures question-bindings.ensures first-places.ensures c.unwrap-places.ensures w.1
 
 pub overflow_mul-result : goal.overflow_mul-result
 overflow_mul-result c =
@@ -82,7 +87,7 @@ overflow_mul-result c =
 pub returns : goal.returns
 returns c =
     let put-pairs = c.put_pairs in
-    let first-places = c.first_places-places in
+    let first-places = c.first_places in
     let question-bindings = c.question_bindings-b in
     let question-source = c.question_source-n in
-    record { is = λ b l o serves. there-of b l o question-source.ensures question-bindings.ensures serves first-places.ensures put-pairs.ensures }
+    record { is = λ b l o serves. there-of b l o question-source.ensures question-bindings.ensures first-places.ensures c.unwrap-places.ensures put-pairs.ensures }

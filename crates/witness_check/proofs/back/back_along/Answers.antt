@@ -3,7 +3,7 @@ use native.Mathlib.Omega.{arith}
 use lib.Seq.{length-take-le}
 use Rattle.book_codes.proofs.Lent.{targets-few, target_room}
 use Rattle.book_codes.proofs.BackTask.{some-sound, back-lent, all-few}
-use Rattle.witness_check.proofs.WayBack.Ways.{back-short, back-followed}
+use Rattle.witness_check.proofs.WayBack.Ways.{back-short, back-unnamed, back-followed}
 use Rattle.witness_check.proofs.back.back_along.Goals as goal
 
 pub returns-then-witness-widths : goal.returns-then-witness-widths
@@ -21,8 +21,8 @@ question_bindings-b-requires c =
     let w = c.requires in
     some-sound w
 
-pub byte_places-ks-requires : goal.byte_places-ks-requires
-byte_places-ks-requires c =
+pub byte_places-requires : goal.byte_places-requires
+byte_places-requires c =
     let question-bindings = c.question_bindings-b in
     let question-target = c.question_target-n in
     let if1 = c.if-witness-widths in
@@ -41,8 +41,8 @@ slice_bounds-target-end c =
     let w = c.requires in
     let v = w.is.list.sound in target_room _ v question-target.ensures (omega arith)
 
-pub slice_bounds-follows-end : goal.slice_bounds-follows-end
-slice_bounds-follows-end c =
+pub slice_bounds-task-end : goal.slice_bounds-task-end
+slice_bounds-task-end c =
     let question-target = c.question_target-n in
     let w = c.requires in
     let v = w.is.list.sound in sym (length-take-le _ _ (target_room _ v question-target.ensures (omega arith)))
@@ -53,24 +53,26 @@ slice_bounds-own-end c =
     let w = c.requires in
     let v = w.is.list.sound in targets-few _ v question-target.ensures
 
-pub slice_bounds-follows-end-2 : goal.slice_bounds-follows-end-2
-slice_bounds-follows-end-2 c =
+pub slice_bounds-task-end-2 : goal.slice_bounds-task-end-2
+slice_bounds-task-end-2 c =
     let question-target = c.question_target-n in
     let w = c.requires in
     let v = w.is.list.sound in sym (length-take-le _ _ (targets-few _ v question-target.ensures))
 
-pub follows-requires : goal.follows-requires
-follows-requires c =
+pub invariant_of-task : goal.invariant_of-task
+invariant_of-task c =
     let question-bindings = c.question_bindings-b in
     let question-target = c.question_target-n in
     let w = c.requires in
-    back-lent _ _ w.is question-target.ensures question-bindings.ensures
+    record { sized = back-lent _ _ w.is question-target.ensures question-bindings.ensures }
+
+pub returns-in_default : goal.returns-in_default
+returns-in_default c = record { exactly = λ b l o. back-unnamed b l o c.question_target-n.ensures c.question_bindings-b.ensures (c.in_default.ensures) }
 
 pub returns : goal.returns
 returns c =
     let follows = c.follows in
-    let byte-places = c.byte_places-ks in
     let question-bindings = c.question_bindings-b in
     let question-target = c.question_target-n in
     let if1 = c.if-witness-widths in
-    record { exactly = λ b l o. back-followed b l o question-target.ensures question-bindings.ensures follows.ensures byte-places.ensures if1.false }
+    record { exactly = λ b l o. back-followed b l o question-target.ensures question-bindings.ensures follows.ensures (c.in-Some.ensures) if1.false }

@@ -13,7 +13,10 @@ pub loop-i-preserved : goal.loop-i-preserved
 loop-i-preserved c =
     let t = c.loop-i-test.true in
     let l = c.loop-i in
-    (omega arith, bytes-more _ _ l.ks _ (omega (arith, c.requires)) l.invariant.1 c.before-in-loop-i.ensures)
+    (omega arith, bytes-more _ _ l.ks _ (omega (arith, c.requires)) l.invariant.1 (let f = c.in_ok-ks.ensures in omega (arith, f.0, f.1)))
+
+pub returns-in_err-ks : goal.returns-in_err-ks
+returns-in_err-ks c = rw c.from_residual.ensures (c.loop-i.i, c.loop-i-test.true, omega (arith, c.in_err-ks.ensures))
 
 pub returns : goal.returns
 returns c = bytes-end _ _ _ _ c.loop-i-test.false c.loop-i.invariant.1

@@ -32,7 +32,10 @@ loop-i-preserved c =
     let w = c.requires in
     let t = c.loop-i-test.true in
     let l = c.loop-i in
-    (omega arith, pairs-more _ _ _ _ l.ks _ (omega (arith, w.1)) l.invariant.1 c.place_of.ensures)
+    (omega arith, pairs-more _ _ _ _ l.ks _ (omega (arith, w.1)) l.invariant.1 (c.in_ok-ks.ensures))
+
+pub returns-in_err-ks : goal.returns-in_err-ks
+returns-in_err-ks c = rw c.from_residual.ensures (c.loop-i.i, c.loop-i-test.true, c.in_err-ks.ensures)
 
 pub returns : goal.returns
 returns c = pairs_end _ _ _ _ _ _ c.loop-i-test.false c.loop-i.invariant.1

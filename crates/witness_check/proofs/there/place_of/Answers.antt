@@ -1,3 +1,4 @@
+use mathlib.Core.Path.{refl}
 use native.Mathlib.Omega.{arith}
 use Rattle.witness_check.proofs.WayThere.Placing.{no_place, no_row, no_inner, past-use, in_use}
 use Rattle.witness_check.proofs.there.place_of.Goals as goal
@@ -31,8 +32,7 @@ bounds-starts-of c =
 
 pub overflow_add-place : goal.overflow_add-place
 overflow_add-place c =
-    let wide = c.wide in
-    omega (arith, wide.ensures.1)
+    omega arith
 
 pub offset_bounds-starts-of-2 : goal.offset_bounds-starts-of-2
 offset_bounds-starts-of-2 c =
@@ -47,23 +47,18 @@ bounds-starts-of-2 c =
 
 pub overflow_cast-result : goal.overflow_cast-result
 overflow_cast-result c =
-    let if4 = c.if-place-wide in
-    let wide2 = c.wide-2 in
-    omega (arith, if4.true, wide2.ensures.1)
+    let if4 = c.if-place-starts in
+    omega (arith, if4.true)
 
-pub returns-then-place-wide : goal.returns-then-place-wide
-returns-then-place-wide c =
-    let if4 = c.if-place-wide in
-    let wide2 = c.wide-2 in
-    let wide = c.wide in
+pub returns-then-place-starts : goal.returns-then-place-starts
+returns-then-place-starts c =
+    let if4 = c.if-place-starts in
     let if3 = c.if-within-lt1 in
     let if2 = c.if-k-of in
     let if1 = c.if-of-lt1 in
-    in_use _ _ _ _ _ _ wide.ensures.0 wide2.ensures.0 if1.false if2.false if3.false if4.true
+    in_use _ _ _ _ _ _ refl refl if1.false if2.false if3.false if4.true
 
 pub returns : goal.returns
 returns c =
-    let if4 = c.if-place-wide in
-    let wide2 = c.wide-2 in
-    let wide = c.wide in
-    past-use _ _ _ _ _ _ wide.ensures.0 wide2.ensures.0 if4.false
+    let if4 = c.if-place-starts in
+    past-use _ _ _ _ _ _ refl refl if4.false

@@ -3,7 +3,7 @@ use native.Mathlib.Omega.{arith}
 use lib.Seq.{length-take-le}
 use Rattle.book_codes.proofs.Lent.{goals-few, source-room, widths-room}
 use Rattle.book_codes.proofs.ThereTask.{there-lent}
-use Rattle.witness_check.proofs.WayThere.Ways.{stood-sound, there-short, there-followed}
+use Rattle.witness_check.proofs.WayThere.Ways.{stood-sound, there-short, there-unnamed, there-followed}
 use Rattle.witness_check.proofs.there.there_along.Goals as goal
 
 pub question_source-n-requires : goal.question_source-n-requires
@@ -28,8 +28,8 @@ question_bindings-b-requires c =
     let w = c.requires in
     stood-sound w
 
-pub pair_places-ks-requires : goal.pair_places-ks-requires
-pair_places-ks-requires c =
+pub pair_places-requires : goal.pair_places-requires
+pair_places-requires c =
     let if1 = c.if-witness-n in
     let question-source = c.question_source-n in
     let w = c.requires in
@@ -47,8 +47,8 @@ slice_bounds-source-end c =
     let w = c.requires in
     let v = w.is.targets.list.sound in source-room _ v question-source.ensures (omega arith)
 
-pub slice_bounds-follows-end : goal.slice_bounds-follows-end
-slice_bounds-follows-end c =
+pub slice_bounds-task-end : goal.slice_bounds-task-end
+slice_bounds-task-end c =
     let question-source = c.question_source-n in
     let w = c.requires in
     let v = w.is.targets.list.sound in sym (length-take-le _ _ (source-room _ v question-source.ensures (omega arith)))
@@ -59,8 +59,8 @@ slice_bounds-widths-end c =
     let w = c.requires in
     let v = w.is.targets.list.sound in widths-room _ v question-source.ensures (omega arith)
 
-pub slice_bounds-follows-end-2 : goal.slice_bounds-follows-end-2
-slice_bounds-follows-end-2 c =
+pub slice_bounds-task-end-2 : goal.slice_bounds-task-end-2
+slice_bounds-task-end-2 c =
     let question-source = c.question_source-n in
     let w = c.requires in
     let v = w.is.targets.list.sound in sym (length-take-le _ _ (widths-room _ v question-source.ensures (omega arith)))
@@ -71,24 +71,26 @@ slice_bounds-lasts-end c =
     let w = c.requires in
     let v = w.is.targets.list.sound in goals-few _ v question-source.ensures
 
-pub slice_bounds-follows-end-3 : goal.slice_bounds-follows-end-3
-slice_bounds-follows-end-3 c =
+pub slice_bounds-task-end-3 : goal.slice_bounds-task-end-3
+slice_bounds-task-end-3 c =
     let question-source = c.question_source-n in
     let w = c.requires in
     let v = w.is.targets.list.sound in sym (length-take-le _ _ (goals-few _ v question-source.ensures))
 
-pub follows-requires : goal.follows-requires
-follows-requires c =
+pub invariant_of-task : goal.invariant_of-task
+invariant_of-task c =
     let question-bindings = c.question_bindings-b in
     let question-source = c.question_source-n in
     let w = c.requires in
-    there-lent _ _ w.is.targets question-source.ensures question-bindings.ensures
+    record { sized = there-lent _ _ w.is.targets question-source.ensures question-bindings.ensures }
+
+pub returns-in_default : goal.returns-in_default
+returns-in_default c = record { exactly = λ b l o. there-unnamed b l o c.question_source-n.ensures c.question_bindings-b.ensures (c.in_default.ensures) }
 
 pub returns : goal.returns
 returns c =
     let follows = c.follows in
-    let pair-places = c.pair_places-ks in
     let question-bindings = c.question_bindings-b in
     let if1 = c.if-witness-n in
     let question-source = c.question_source-n in
-    record { exactly = λ b l o. there-followed b l o question-source.ensures question-bindings.ensures follows.ensures pair-places.ensures if1.false }
+    record { exactly = λ b l o. there-followed b l o question-source.ensures question-bindings.ensures follows.ensures (c.in-Some.ensures) if1.false }

@@ -1,5 +1,0 @@
-use Rattle.rule_codes.proofs.UseLaws.{as_own}
-use Rattle.rule_codes.proofs.uses.own_codes.Goals as goal
-
-pub returns : goal.returns
-returns c = as_own _ (c.use_codes.ensures _)

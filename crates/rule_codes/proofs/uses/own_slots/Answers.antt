@@ -1,5 +1,0 @@
-use Rattle.rule_codes.proofs.UseLaws.{as-slots}
-use Rattle.rule_codes.proofs.uses.own_slots.Goals as goal
-
-pub returns : goal.returns
-returns c = λ u. as-slots u (c.use_codes.ensures u)
