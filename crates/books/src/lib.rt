@@ -60,9 +60,10 @@ fn read_rules(book: &[u8], n: usize) -> Result<(), Refused>
 {
     let all = entries_of(n);
     for i in 1..all {
-        if let Err(defect) = judge_entry(book, i) {
-            return Err(refusal_of(defect, i));
-        }
+        let verdict = judge_entry(book, i);
+        let Ok(()) = verdict else {
+            return Err(refusal_of(verdict.unwrap_err(), i));
+        };
     }
     Ok(())
 }

@@ -25,8 +25,12 @@ pub fn load(book: &[u8]) -> Result<usize, Refused>
     if MOST_SUMMARIES < n {
         return Err(Refused::Count);
     }
-    no_gaps(book, n)?;
-    right_relations(book)?;
+    let Ok(()) = no_gaps(book, n) else {
+        return Err(Refused::Contents);
+    };
+    let Ok(()) = right_relations(book) else {
+        return Err(Refused::Relations);
+    };
     Ok(n)
 }
 

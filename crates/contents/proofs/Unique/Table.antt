@@ -23,7 +23,7 @@ never_both : (book : List ℕ) (room n : ℕ) {r : Reason} → JudgeSays book ro
 never_both book room n p (one h) = let g = p.0 in omega arith
 never_both book room n p (then h q e) = loads-unrefused book p.1.0 q e
 
-judge-unique : (book : List ℕ) (room : ℕ) (r s : Result ℕ Refused) → JudgeSays book room r → JudgeSays book room s → r ≡ s
+pub judge-unique : (book : List ℕ) (room : ℕ) (r s : Result ℕ Refused) → JudgeSays book room r → JudgeSays book room s → r ≡ s
 judge-unique book room (Ok n) (Ok m) p q = ap Ok (p.1.1 ∙ sym q.1.1)
 judge-unique book room (Ok n) (Err e) p q = absurd (never_both book room n p q)
 judge-unique book room (Err e) (Ok n) p q = absurd (never_both book room n q p)
