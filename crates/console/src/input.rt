@@ -1,6 +1,9 @@
 // Many books on standard input, each after its size.
-ghost use Rattle.std.specs.Prelude.{◌≤◌, IfOk, IfErr};
+ghost use Rattle.std.specs.Prelude.{◌≡◌, true, ◌≤◌, List, ℕ, take, length, IfOk, OnOk, IfErr, IfSome};
+ghost use Rattle.std.specs.Fn.{FnOnceReturnsAt};
 ghost use Rattle.std.specs.Io.{ReadsAtMost};
+ghost use Rattle.std.specs.Io.KnownBytes.{Consumes};
+ghost use Rattle.console.specs.Books.{BookRead, book_room, SizeRead};
 
 use spec::LONGEST_BOOK;
 use std::io;
@@ -29,6 +32,7 @@ pub fn one_book<R: Read, F: FnOnce(&[u8]) -> io::Result<()>>(
     print: F,
 ) -> io::Result<()>
     requires { F.IsAlwaysCallable print }
+    ensures { OnOk result ((book : List ℕ) × (length book ≤ book_room) × Consumes (R.remaining input.old) (R.remaining input.new) book × FnOnceReturnsAt F.FnOnce print book result) }
 {
     let mut book = [0u8; BOOK_ROOM];
     let n = fill(input, &mut book, u64::MAX)?;
@@ -42,6 +46,7 @@ pub fn next_book<R: Read, W: Write, F: FnOnce(&mut W, &[u8]) -> io::Result<()>>(
     print: F,
 ) -> io::Result<bool>
     requires { F.IsAlwaysCallable print }
+    ensures { IfOk result (λ more. more ≡ true → (book : _) × (before : _) × (after : _) × BookRead (R.remaining input.old) book.now × F.post print before book (Ok tt) after) }
 {
     let Some(size) = size(input)? else {
         return Ok(false);
@@ -56,7 +61,9 @@ pub fn next_book<R: Read, W: Write, F: FnOnce(&mut W, &[u8]) -> io::Result<()>>(
 }
 
 // The size that stands before the next book, or none where the input ends.
-pub fn size<R: Read>(input: &mut R) -> io::Result<Option<u32>> {
+pub fn size<R: Read>(input: &mut R) -> io::Result<Option<u32>>
+    ensures { IfOk result (λ r. IfSome r (SizeRead (R.remaining input.old) (R.remaining input.new))) }
+{
     let mut b = [0u8; 4];
     if fill_room(input, &mut b)? < b.len() {
         return Ok(None);
@@ -68,6 +75,7 @@ pub fn size<R: Read>(input: &mut R) -> io::Result<Option<u32>> {
 pub fn fill<R: Read>(input: &mut R, room: &mut [u8], wanted: u64) -> io::Result<usize>
     ensures front { ReadsAtMost result room.new }
     ensures wanted { IfOk result (λ n. n ≤ wanted) }
+    ensures came { IfOk result (λ n. Consumes (R.remaining input.old) (R.remaining input.new) (take n room.new)) }
 {
     if wanted < room.len() as u64 {
         let n = wanted as usize;
@@ -85,7 +93,8 @@ pub fn pass<R: Read>(input: &mut R, bytes: u64) -> io::Result<()> {
 
 // Reads until the room is full or the input ends; answers how many bytes stand in it.
 fn fill_room<R: Read>(input: &mut R, room: &mut [u8]) -> io::Result<usize>
-    ensures { ReadsAtMost result room.new }
+    ensures front { ReadsAtMost result room.new }
+    ensures came { IfOk result (λ n. Consumes (R.remaining input.old) (R.remaining input.new) (take n room.new)) }
 {
     let mut filled = 0;
     // A proved loop has to end, and nothing says that the input does: no input uses up so many turns.

@@ -1,0 +1,2 @@
+pub mod Books
+pub mod Fills
