@@ -91,7 +91,7 @@ module _ (p : Task) (at : ℕ) (b : List ℕ) (rows : Rows) (more : at < goals p
             ]
           ])
 
-      first-here : First (Afforded p at b rows) (ListBefore ◌<◌) (k ∷ l)
+      pub first-here : First (Afforded p at b rows) (ListBefore ◌<◌) (k ∷ l)
       unfolding Later
       first-here = record { holds = here; least = least }
 

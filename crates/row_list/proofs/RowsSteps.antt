@@ -27,7 +27,7 @@ module _ {relations bytes target own : List ℕ} {found area : ℕ} (w : Summary
       let goals = i.layout.within.few in
       omega (arith, length-append (map alone v.head) v.body, length-map v.head alone)
 
-  goals-few : n ≤ 16
+  pub goals-few : n ≤ 16
   goals-few = let v = w.rule in let i = w.is.summary in omega (arith, s.count v i, few-goals v i)
 
   abbrev lent : Task

@@ -10,9 +10,10 @@ use Rattle.spec.specs.Words.{Term, Rule}
 use Rattle.spec.specs.Table.{most_rows}
 use Rattle.task.specs.Task.{Task}
 use Rattle.summary_rows.specs.RowTask.{TaskOf}
-use Rattle.summary_rows.specs.RowPlaces.{RowPlaces, NextRowNeeds, StartPlaces, NextPlaces}
+use Rattle.summary_rows.specs.RowPlaces.{HeadTask, RowPlaces, NextRowNeeds, StartPlaces, NextPlaces}
 use Rattle.summary_rows.specs.RowCodes.{row_codes}
 use Rattle.summary_rows.specs.RowsAfter.{RowsNeeds, RowsSays}
+use Rattle.summary_rows.proofs.HeadLaws.{row-ready}
 use Rattle.summary_rows.proofs.RowCodes.{row-long}
 use Rattle.summary_rows.proofs.Listing.{RowsSoFar, listing_start, listing-more, listing-end, listing-over}
 
@@ -21,6 +22,9 @@ pub record State (p : Task) (h n found : ℕ) (before out : List ℕ) (next : Op
   pub long : length out ≡ length before
   pub row : IfSome next (λ ks. RowPlaces p h (take h ks))
   pub each : (v q : Rule ℕ) (ts : List (Term ℕ)) → TaskOf v q ts p h → RowsSoFar n v q ts h found before out next count
+
+pub head-task : {p : Task} {h found area : ℕ} → RowsNeeds p h found area → HeadTask p h
+head-task {p} {h} asked = row-ready asked.rule asked.question asked.terms p h asked.task
 
 module _ (p : Task) (h n found : ℕ) (before : List ℕ) (asked : RowsNeeds p h found (length before)) where
   pub state-start : (r : Option (List ℕ)) → StartPlaces p h r → State p h n found before before r found
@@ -31,10 +35,11 @@ module _ (p : Task) (h n found : ℕ) (before : List ℕ) (asked : RowsNeeds p h
       row (Some ks) a = a.first.holds
 
   module _ (out ks : List ℕ) (count : ℕ) (s : State p h n found before out (Some ks) count) where
-    pub at_row : NextRowNeeds p h ks
-    at_row = s.row
+    -- what a `RowTask` has in its type, and what `next_row` asks beside it
+    pub at_row : HeadTask p h × NextRowNeeds p h ks
+    at_row = (head-task asked, s.row)
 
-    room : count < most_rows → 9 * count + 9 ≤ length out
+    pub room : count < most_rows → 9 * count + 9 ≤ length out
     room l = omega (arith, s.long, asked.room)
 
     pub state-more : count < most_rows → (out' : List ℕ) → out' ≡ paste out (9 * count) (row_codes n p.target (take h ks)) 9 → (r : Option (List ℕ)) → NextPlaces p h ks r → State p h n found before out' r (count + 1)

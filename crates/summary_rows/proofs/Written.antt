@@ -3,7 +3,7 @@ use mathlib.Core.Path.{◌≡◌, sym, ap, ap₂, ◌∙◌}
 use mathlib.Core.List.{List, [], ◌∷◌, ◌++◌, map, append_assoc}
 use Prim.Native.Nat.{ℕ, suc, ◌+◌, ◌*◌, ◌≤◌}
 use native.Mathlib.Omega.{arith}
-use lib.ListN.{length, take, drop, length-append}
+use lib.ListN.{length, take, drop, length-append, length-drop}
 use lib.Seq.{take_all, take_at, drop-append-add, drop-drop, length-take-le, paste}
 use Rattle.spec.specs.Words.{Term, Subgoal}
 use Rattle.codes.specs.Code.{term_code, subgoal_codes, codes_of}
@@ -22,6 +22,9 @@ module _ (before : List ℕ) (found : ℕ) (l : List (Subgoal (Term ℕ))) (coun
 
   fronted : table before found l count ≡ front ++ drop (9 * count) before
   fronted = sym (append_assoc (take (9 * found) before) (codes_of term_code l) (drop (9 * count) before))
+
+  pub table-long : length (table before found l count) ≡ length before
+  table-long = ap length fronted ∙ length-append front (drop (9 * count) before) ∙ omega (arith, front_long, length-drop (9 * count) before)
 
   pub table_more : (g : Subgoal (Term ℕ)) → paste (table before found l count) (9 * count) (subgoal_codes term_code g) 9 ≡ table before found (l ++ (g ∷ [])) (count + 1)
   table_more g =
